@@ -1,0 +1,52 @@
+-- What a forecast says of every number of clocks settles it.
+use mathlib.Core.Path.{_≡_, refl, sym, ap, _∙_}
+use mathlib.Core.Bool.{Bool, true, false, _||_, _&&_, or-true, or-false, and-true, and-false, true≢false, false≢true}
+use Prim.Native.Nat.{ℕ, _+_, _-_, _<_, _≤_}
+use native.Mathlib.Nat.{le-refl}
+use native.Mathlib.Decide.{decLt, decLe}
+use native.Mathlib.Omega.{arith}
+use lib.Dec.{leb, leb·zero}
+use borrow.Author.Tests.{le-leb, lt-leb, leb-true}
+use Rattle.clocks.specs.Clocks.{if_then_else_}
+use Rattle.clocks.specs.Forecasts.{comes, soonerOf}
+use Rattle.clocks.specs.declared.Forecast.{Forecast}
+use Rattle.clocks.specs.declared.Forecast.the-variants.{Never, In}
+
+-- it stands at the number that is forecast, and not before
+pub comes-at : (d : ℕ) → comes (In d) d ≡ true
+comes-at d = le-leb d d (le-refl d)
+
+pub comes-not-before : (d j : ℕ) → j < d → comes (In d) j ≡ false
+comes-not-before d j h = lt-leb d j h
+
+-- two forecasts that say the same coincide
+pub comes-one : (f g : Forecast) → ((k : ℕ) → comes f k ≡ comes g k) → f ≡ g
+comes-one Never Never e = refl
+comes-one Never (In y) e = absurd (false≢true (e y ∙ comes-at y))
+comes-one (In x) Never e = absurd (true≢false (sym (comes-at x) ∙ e x))
+comes-one (In x) (In y) e =
+    let a = leb-true y x (sym (e x) ∙ comes-at x) in
+    let b = leb-true x y (e y ∙ comes-at y) in
+    ap In (omega arith)
+
+-- the sooner of two stands when either does
+pub sooner-comes : (f g : Forecast) (k : ℕ) → comes (soonerOf f g) k ≡ (comes f k || comes g k)
+sooner-comes Never g k = refl
+sooner-comes (In x) Never k = sym (or-false (leb x k))
+sooner-comes (In x) (In y) k = go (decLe x y) (decLe x k) (decLe y k)
+  where
+    go : Dec (x ≤ y) → Dec (x ≤ k) → Dec (y ≤ k) → comes (if leb x y then In x else In y) k ≡ (leb x k || leb y k)
+    go (yes p) (yes q) d = rw (le-leb x y p, le-leb x k q)
+    go (yes p) (no q) d = rw (le-leb x y p, lt-leb x k (omega arith), lt-leb y k (omega arith))
+    go (no p) d (yes q) = rw (lt-leb x y (omega arith), le-leb y k q) (sym (or-true (leb x k)))
+    go (no p) d (no q) = rw (lt-leb x y (omega arith), lt-leb y k (omega arith), lt-leb x k (omega arith))
+
+-- a forecast behind an enable
+pub gate-comes : (y : Bool) (f : Forecast) (k : ℕ) → comes (if y then f else Never) k ≡ (comes f k && y)
+gate-comes true f k = sym (and-true (comes f k))
+gate-comes false f k = sym (and-false (comes f k))
+
+-- a forecast of what may stand already
+pub now-comes : (b : Bool) (f : Forecast) (k : ℕ) → comes (if b then In 0 else f) k ≡ (b || comes f k)
+now-comes true f k = leb·zero k
+now-comes false f k = refl

@@ -1,0 +1,5 @@
+pub mod Clocks
+pub mod Tests
+pub mod Forecasts
+pub mod Turns
+pub mod Bits

@@ -1,0 +1,18 @@
+-- What all chips share: a value picked by a test, n clocks of a rule for one, and the count below a count.
+use mathlib.Core.Bool.{Bool, true, false, cond}
+use Prim.Native.Nat.{ℕ, zero, suc, _-_}
+use lib.Dec.{eqb}
+
+-- the first value where the test holds, else the second
+infixr 5 if_then_else_
+abbrev pub if_then_else_ : {A : Type 0} → Bool → A → A → A
+if_then_else_ b x y = cond b x y
+
+-- what n turns of the rule f leave of x
+unfoldable pub after : {A : Type 0} → ℕ → (A → A) → A → A
+after zero f x = x
+after (suc n) f x = f (after n f x)
+
+-- the count below c, in a count of w numbers: 0 is followed by the highest of them
+abbrev pub lower : ℕ → ℕ → ℕ
+lower w c = if eqb c 0 then w - 1 else c - 1

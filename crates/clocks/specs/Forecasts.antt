@@ -1,0 +1,23 @@
+-- When a thing comes to stand: after a number of clocks, or never.
+use mathlib.Core.Bool.{Bool, true, false}
+use Prim.Native.Nat.{ℕ}
+use lib.Dec.{leb}
+use Rattle.clocks.specs.Clocks.{if_then_else_}
+use Rattle.clocks.specs.declared.Forecast.{Forecast}
+use Rattle.clocks.specs.declared.Forecast.the-variants.{Never, In}
+
+-- the number that document 01 gives each case
+abbrev pub numberOf : Forecast → ℕ
+numberOf Never = 4294967295
+numberOf (In d) = d
+
+-- whether what is forecast stands after k clocks
+abbrev pub comes : Forecast → ℕ → Bool
+comes Never k = false
+comes (In d) k = leb d k
+
+-- the sooner of two forecasts
+abbrev pub soonerOf : Forecast → Forecast → Forecast
+soonerOf Never b = b
+soonerOf (In x) Never = In x
+soonerOf (In x) (In y) = if leb x y then In x else In y

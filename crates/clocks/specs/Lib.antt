@@ -1,0 +1,3 @@
+pub mod Clocks
+pub mod Forecasts
+pub mod Bits

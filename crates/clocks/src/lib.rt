@@ -1,0 +1,50 @@
+// What the chips of the bench share. Most of it is meaning (specs/) and laws (proofs/); the code is the forecast and the bits of a byte.
+ghost use mathlib.Core.Path.{_≡_};
+ghost use Rattle.clocks.specs.Forecasts.{numberOf, soonerOf};
+ghost use Rattle.clocks.specs.Bits.{bit as bitOf, merge as mergeOf};
+
+// After how many clocks a thing comes to stand.
+pub enum Forecast {
+    Never,
+    In(u32),
+}
+
+impl Forecast {
+    // The number that stands for never.
+    pub const NEVER: u32 = 4294967295;
+
+    pub fn number(self) -> u32
+        ensures { λ r. ⌜ r ≡ numberOf self ⌝ }
+    {
+        match self {
+            Forecast::Never => Forecast::NEVER,
+            Forecast::In(clocks) => clocks,
+        }
+    }
+
+    pub fn sooner(self, other: Forecast) -> Forecast
+        ensures { λ r. ⌜ r ≡ soonerOf self other ⌝ }
+    {
+        match self {
+            Forecast::Never => other,
+            Forecast::In(x) => match other {
+                Forecast::Never => self,
+                Forecast::In(y) => { if x <= y { self } else { other } }
+            },
+        }
+    }
+}
+
+// Whether bit k of x is set; a byte has none above 7.
+pub fn bit(k: u8, x: u8) -> bool
+    ensures { λ r. ⌜ r ≡ bitOf k x ⌝ }
+{
+    if k < 8 { (x >> k) % 2 == 1 } else { false }
+}
+
+// The bits of x where the mask is 1, those of y where it is 0.
+pub fn merge(mask: u8, x: u8, y: u8) -> u8
+    ensures { λ r. ⌜ r ≡ mergeOf mask x y ⌝ }
+{
+    (x & mask) | (y & !mask)
+}
