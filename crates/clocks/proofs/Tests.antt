@@ -19,3 +19,8 @@ on-true false x y e = absurd (false≢true e)
 pub on-false : {A : Type 0} (t : Bool) (x y : A) → t ≡ false → (if t then x else y) ≡ y
 on-false true x y e = absurd (true≢false e)
 on-false false x y e = refl
+
+-- what holds of both values holds of the one that is picked
+pub picked : {A : Type 0} (P : A → Type 0) (t : Bool) {x y : A} → P x → P y → P (if t then x else y)
+picked P true p q = p
+picked P false p q = q

@@ -1,5 +1,6 @@
 // What the chips of the bench share. Most of it is meaning (specs/) and laws (proofs/); the code is the forecast and the bits of a byte.
 ghost use mathlib.Core.Path.{_≡_};
+ghost use Rattle.clocks.specs.Clocks.{if_then_else_};
 ghost use Rattle.clocks.specs.Forecasts.{numberOf, soonerOf};
 ghost use Rattle.clocks.specs.Bits.{bit as bitOf, merge as mergeOf};
 
@@ -33,6 +34,19 @@ impl Forecast {
             },
         }
     }
+}
+
+// The first number where the test holds, else the second.
+pub fn choose8(test: bool, x: u8, y: u8) -> u8
+    ensures { λ r. ⌜ r ≡ (if test then x else y) ⌝ }
+{
+    if test { x } else { y }
+}
+
+pub fn choose16(test: bool, x: u16, y: u16) -> u16
+    ensures { λ r. ⌜ r ≡ (if test then x else y) ⌝ }
+{
+    if test { x } else { y }
 }
 
 // Whether bit k of x is set; a byte has none above 7.

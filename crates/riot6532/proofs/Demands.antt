@@ -1,0 +1,141 @@
+-- The statements of specs/Demands.antt, proved.
+use mathlib.Core.Path.{_≡_, refl, sym, ap, ap₂, _∙_}
+use mathlib.Core.Bool.{Bool, true, false, not, _&&_, _||_, or-true}
+use mathlib.Core.Logic.{_⊎_, _↔_, inl, inr, ⊎-elim}
+use Prim.Native.Nat.{ℕ, zero, suc, _+_, _-_, _*_, _<_, _≤_}
+use native.Mathlib.Omega.{arith}
+use Rattle.clocks.specs.Clocks.{if_then_else_, after}
+use Rattle.clocks.specs.Forecasts.{comes}
+use Rattle.clocks.specs.declared.Forecast.{Forecast}
+use Rattle.clocks.specs.declared.Forecast.the-variants.{Never, In}
+use Rattle.clocks.proofs.Tests.{both, either}
+use Rattle.clocks.proofs.Forecasts.{comes-one, comes-at, comes-not-before}
+use Rattle.clocks.proofs.Bits.{bit-merge}
+use Rattle.riot6532.specs.Record.{wellFormed, powerUp, resetOf}
+use Rattle.riot6532.specs.Ports.{irqOf}
+use Rattle.riot6532.specs.Clock.{clockOf}
+use Rattle.riot6532.specs.Answers.{accepted, refused, judged, Foretold}
+use Rattle.riot6532.specs.Closed.{countsOf, forecastOf}
+use Rattle.riot6532.specs.Demands
+use Rattle.riot6532.specs.Demands.{Call, reset, read, write, pins, clock, run, forecast, givesOf, leavesOf, answerOf, Reached}
+use Rattle.riot6532.specs.declared.Timer.{Timer}
+use Rattle.riot6532.specs.declared.Io.{Io}
+use Rattle.riot6532.specs.declared.Riot.{Riot}
+use Rattle.riot6532.specs.declared.Answer.{Answer}
+use Rattle.riot6532.specs.declared.Outlook.{Outlook}
+use Rattle.riot6532.proofs.Judged.{accepts, refuses}
+use Rattle.riot6532.proofs.Lines.{line-after}
+use Rattle.riot6532.proofs.Kept.{Sound, counts-most, run-well, well-kept, reached-sound}
+
+pub refuses-ill : Demands.Refuses-ill
+refuses-ill c v w = refuses v (givesOf c v) (leavesOf c v) w
+
+-- an accepted call gives the lines of the record that it leaves
+accepts-as : (c : Call) (v : Riot) → wellFormed v ≡ true → answerOf c v ≡ accepted (givesOf c v) (leavesOf c v)
+accepts-as c v w = accepts v (givesOf c v) (leavesOf c v) w
+
+pub accepts-well : Demands.Accepts-well
+accepts-well c v w = ap (λ (r : Answer). r .refusal) (accepts-as c v w)
+
+pub power-up-well : Demands.Power-up-well
+power-up-well = refl
+
+pub power-up-reset : Demands.Power-up-reset
+power-up-reset = refl
+
+pub keeps-well : Demands.Keeps-well
+keeps-well c v h a = go (wellFormed v) refl
+  where
+    go : (b : Bool) → wellFormed v ≡ b → wellFormed (answerOf c v .riot) ≡ true
+    go true w = well-kept c v h w
+    go false w = let e : _≡_ {A = ℕ} 1 0 = sym (ap (λ (r : Answer). r .refusal) (refuses-ill c v w)) ∙ a in absurd (omega arith)
+
+pub reached-well : Demands.Reached-well
+reached-well v r = reached-sound v r .well
+
+pub lines-by-bit : Demands.Lines-by-bit
+lines-by-bit p k h l = bit-merge k (p .ddr) (p .output) (p .outside) h l
+
+-- the line's test, both ways
+raised : (a b c d : Bool) → ((a && b || c && d) ≡ true) ↔ (((a ≡ true) × (b ≡ true)) ⊎ ((c ≡ true) × (d ≡ true)))
+raised a b c d = (there, back)
+  where
+    there : (a && b || c && d) ≡ true → ((a ≡ true) × (b ≡ true)) ⊎ ((c ≡ true) × (d ≡ true))
+    there h = ⊎-elim (λ x. inl (both a b x)) (λ y. inr (both c d y)) (either (a && b) (c && d) h)
+
+    back : ((a ≡ true) × (b ≡ true)) ⊎ ((c ≡ true) × (d ≡ true)) → (a && b || c && d) ≡ true
+    back (inl x) = rw (x .0, x .1)
+    back (inr y) = rw (y .0, y .1) (or-true (a && b))
+
+pub line-exact : Demands.Line-exact
+line-exact c v r =
+    let io = leavesOf c v .io in
+    rw (accepts-as c v (reached-well v r)) (raised (io .timer .flag) (io .timer .enable) (io .pa7 .flag) (io .pa7 .enable))
+
+module _ (v : Riot) (r : Outlook) (w : wellFormed v ≡ true) (f : Foretold v r) where
+  -- the line after j clocks, where the forecast is g
+  said : (g : Forecast) → r .forecast ≡ g → (j : ℕ) → irqOf (after j clockOf v .io) ≡ comes g j
+  said g e j = f .told w j ∙ ap (λ (g : Forecast). comes g j) e
+
+  -- the forecast is the closed form
+  closed : r .forecast ≡ forecastOf (v .io)
+  closed = comes-one (r .forecast) (forecastOf (v .io)) (λ k. sym (f .told w k) ∙ line-after v w k)
+
+pub forecast-least : Demands.Forecast-least
+forecast-least v r d reached f e =
+    let w = reached-well v reached in
+    (said v r w f (In d) e d ∙ comes-at d, λ j h. said v r w f (In d) e j ∙ comes-not-before d j h)
+
+pub forecast-never : Demands.Forecast-never
+forecast-never v r reached f =
+    let w = reached-well v reached in
+    (λ e j. said v r w f Never e j, λ h. comes-one (r .forecast) Never (λ k. sym (f .told w k) ∙ h k))
+
+pub forecast-bound : Demands.Forecast-bound
+forecast-bound v r d reached f e =
+    small (irqOf (v .io)) (t .enable && not (t .expired)) (sym (closed v r w f) ∙ e)
+  where
+    w : wellFormed v ≡ true
+    w = reached-well v reached
+
+    t : Timer
+    t = v .io .timer
+
+    small : (i a : Bool) → (if i then In 0 else if a then In (countsOf t + 1) else Never) ≡ In d → d ≤ 261121
+    small true a q = let z : d ≡ 0 = cc in omega arith
+    small false true q = let z : d ≡ countsOf t + 1 = cc in omega (arith, counts-most t (reached-sound v reached))
+    small false false q = let z : _≡_ {A = ℕ} 0 1 = cc in absurd (omega arith)
+
+-- a refused clock leaves the record, an accepted one clocks it
+clock-call : Riot → Riot
+clock-call u = answerOf clock u .riot
+
+well-clocks : (n : ℕ) (v : Riot) → wellFormed v ≡ true → after n clock-call v ≡ after n clockOf v
+unfolding after clock-call
+well-clocks zero v w = refl
+well-clocks (suc n) v w =
+    ap clock-call (well-clocks n v w)
+    ∙ ap (λ (r : Answer). r .riot) (accepts-as clock (after n clockOf v) (run-well n v w))
+
+ill-clocks : (n : ℕ) (v : Riot) → wellFormed v ≡ false → after n clock-call v ≡ v
+unfolding after clock-call
+ill-clocks zero v w = refl
+ill-clocks (suc n) v w = ap clock-call (ill-clocks n v w) ∙ ap (λ (r : Answer). r .riot) (refuses-ill clock v w)
+
+pub run-single : Demands.Run-single
+unfolding clock-call
+run-single n v = go (wellFormed v) refl
+  where
+    go : (b : Bool) → wellFormed v ≡ b → answerOf (run n) v .riot ≡ after n (λ u. answerOf clock u .riot) v
+    go true w = ap (λ (r : Answer). r .riot) (accepts-as (run n) v w) ∙ sym (well-clocks n v w)
+    go false w = ap (λ (r : Answer). r .riot) (refuses-ill (run n) v w) ∙ sym (ill-clocks n v w)
+
+pub forecast-one : Demands.Forecast-one
+forecast-one v r s f g = go (wellFormed v) refl
+  where
+    same : r .forecast ≡ s .forecast → r ≡ s
+    same e = λ i. record { forecast = e i; answer = (f .answer ∙ sym (g .answer)) i }
+
+    go : (b : Bool) → wellFormed v ≡ b → r ≡ s
+    go true w = same (comes-one (r .forecast) (s .forecast) (λ k. sym (f .told w k) ∙ g .told w k))
+    go false w = same (f .refused w ∙ sym (g .refused w))

@@ -1,0 +1,89 @@
+-- What an address names, what a read of it gives and leaves, and what a write to it leaves.
+use mathlib.Core.Bool.{Bool, true, false, not}
+use Prim.Native.Nat.{ℕ, _+_, _%_}
+use lib.Dec.{eqb}
+use lib.ListN.{getD, set}
+use Rattle.clocks.specs.Clocks.{if_then_else_}
+use Rattle.clocks.specs.Bits.{bit}
+use Rattle.riot6532.specs.Record.{withRam, withIo, withTimer, withPa7, flagged}
+use Rattle.riot6532.specs.Ports.{linesOf}
+use Rattle.riot6532.specs.declared.Port.{Port}
+use Rattle.riot6532.specs.declared.Timer.{Timer}
+use Rattle.riot6532.specs.declared.Pa7.{Pa7}
+use Rattle.riot6532.specs.declared.Io.{Io}
+use Rattle.riot6532.specs.declared.Riot.{Riot}
+
+-- ---- writes
+
+-- ports: bits 1..0 pick port A, DDRA, port B or DDRB; a port takes the byte as its output
+abbrev pub portWritten : ℕ → ℕ → Io → Io
+portWritten k x io =
+    record {
+      a =
+          record {
+            output = if eqb k 0 then x else io .a .output;
+            ddr = if eqb k 1 then x else io .a .ddr;
+            outside = io .a .outside;
+          };
+      b =
+          record {
+            output = if eqb k 2 then x else io .b .output;
+            ddr = if eqb k 3 then x else io .b .ddr;
+            outside = io .b .outside;
+          };
+      timer = io .timer;
+      pa7 = io .pa7;
+    }
+
+-- timer load: bits 1..0 pick D
+abbrev pub dividerOf : ℕ → ℕ
+dividerOf k = if eqb k 0 then 1 else if eqb k 1 then 8 else if eqb k 2 then 64 else 1024
+
+-- timer load: the byte is the value, bit 3 the enable; flag cleared, p = 1, not expired
+abbrev pub loaded : ℕ → ℕ → Timer
+loaded a x =
+    record { value = x; divider = dividerOf (a % 4); prescaler = 1; expired = false; flag = false; enable = bit 3 a }
+
+-- PA7 control: bit 0 picks the rising edge, bit 1 is the enable; the flag stays
+abbrev pub controlled : ℕ → Pa7 → Pa7
+controlled a e = record { flag = e .flag; enable = bit 1 a; rising = bit 0 a }
+
+-- bit 2 clear: a port; set: bit 4 set loads the timer, clear sets PA7 control
+unfoldable pub ioWritten : ℕ → ℕ → Io → Io
+ioWritten a x io =
+    if not (bit 2 a) then portWritten (a % 4) x io else
+    if bit 4 a then withTimer (loaded a x) io else
+    withPa7 (controlled a (io .pa7)) io
+
+-- bit 7 clear: RAM byte 0..127
+unfoldable pub writeOf : ℕ → ℕ → Riot → Riot
+writeOf a x v = if not (bit 7 a) then withRam (set (v .ram) (a % 128) x) v else withIo (ioWritten a x (v .io)) v
+
+-- ---- reads
+
+-- ports: a port reads as its lines
+abbrev pub portData : ℕ → Io → ℕ
+portData k io =
+    if eqb k 0 then linesOf (io .a) else if eqb k 1 then io .a .ddr else if eqb k 2 then linesOf (io .b) else io .b .ddr
+
+-- the flags: bit 7 the timer's, bit 6 PA7's, the others 0
+abbrev pub flagsOf : Io → ℕ
+flagsOf io = (if io .timer .flag then 128 else 0) + (if io .pa7 .flag then 64 else 0)
+
+-- bit 2 clear: a port; set: bit 0 clear gives the timer, set the flags
+unfoldable pub ioData : ℕ → Io → ℕ
+ioData a io = if not (bit 2 a) then portData (a % 4) io else if not (bit 0 a) then io .timer .value else flagsOf io
+
+-- bit 7 clear: RAM byte 0..127
+unfoldable pub dataOf : ℕ → Riot → ℕ
+dataOf a v = if not (bit 7 a) then getD (v .ram) (a % 128) 0 else ioData a (v .io)
+
+-- a read of the timer clears its flag and takes bit 3 as its enable; one of the flags clears PA7's; others change nothing
+unfoldable pub ioRead : ℕ → Io → Io
+ioRead a io =
+    if not (bit 2 a) then io else
+    if not (bit 0 a) then withTimer (flagged false (bit 3 a) (io .timer)) io else
+    withPa7 (record { flag = false; enable = io .pa7 .enable; rising = io .pa7 .rising }) io
+
+unfoldable pub readOf : ℕ → Riot → Riot
+readOf a v = if not (bit 7 a) then v else withIo (ioRead a (v .io)) v

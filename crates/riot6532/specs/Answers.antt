@@ -1,0 +1,40 @@
+-- What a call gives back.
+use mathlib.Core.Path.{_≡_}
+use mathlib.Core.Bool.{Bool, true, false}
+use Prim.Native.Nat.{ℕ}
+use Rattle.clocks.specs.Clocks.{if_then_else_, after}
+use Rattle.clocks.specs.Forecasts.{comes}
+use Rattle.clocks.specs.declared.Forecast.the-variants.{In}
+use Rattle.riot6532.specs.Record.{wellFormed}
+use Rattle.riot6532.specs.Ports.{linesOf, irqOf}
+use Rattle.riot6532.specs.Clock.{clockOf}
+use Rattle.riot6532.specs.declared.Riot.{Riot}
+use Rattle.riot6532.specs.declared.Answer.{Answer}
+use Rattle.riot6532.specs.declared.Outlook.{Outlook}
+
+-- an accepted call: the data, and the lines of the record as it leaves it
+abbrev pub accepted : ℕ → Riot → Answer
+accepted d v =
+    record {
+      refusal = 0;
+      «data» = d;
+      irq = irqOf (v .io);
+      pa = linesOf (v .io .a);
+      pb = linesOf (v .io .b);
+      riot = v;
+    }
+
+-- a refusal: its number, data 0, all lines 0, and the record as it was handed in
+abbrev pub refused : ℕ → Riot → Answer
+refused n v = record { refusal = n; «data» = 0; irq = false; pa = 0; pb = 0; riot = v }
+
+-- every call of the record v that would give the data d and leave `next`: refusal 1 exactly where v is not well formed
+unfoldable pub judged : Riot → ℕ → Riot → Answer
+judged v d next = if wellFormed v then accepted d next else refused 1 v
+
+-- a forecast changes no record; of a well-formed one it says for every k whether the line is asserted after k clocks;
+-- a refused one gives 0
+pub record Foretold (v : Riot) (r : Outlook) : Type 0 where
+  pub answer : r .answer ≡ judged v 0 v
+  pub told : wellFormed v ≡ true → (k : ℕ) → irqOf (after k clockOf v .io) ≡ comes (r .forecast) k
+  pub refused : wellFormed v ≡ false → r .forecast ≡ In 0
