@@ -15,7 +15,7 @@ use Rattle.riot6532.specs.declared.Riot.{Riot}
 
 -- ---- writes
 
--- ports: bits 1..0 pick port A, DDRA, port B or DDRB; a port takes the byte as its output
+-- k names an output or a direction byte, A's two before B's
 abbrev pub portWritten : ℕ → ℕ → Io → Io
 portWritten k x io =
     record {
@@ -35,50 +35,50 @@ portWritten k x io =
       pa7 = io .pa7;
     }
 
--- timer load: bits 1..0 pick D
+-- the divider that k names
 abbrev pub dividerOf : ℕ → ℕ
 dividerOf k = if eqb k 0 then 1 else if eqb k 1 then 8 else if eqb k 2 then 64 else 1024
 
--- timer load: the byte is the value, bit 3 the enable; flag cleared, p = 1, not expired
+-- a load starts the timer anew at the byte written: its first count comes with the next clock, and the address says divider and enable
 abbrev pub loaded : ℕ → ℕ → Timer
 loaded a x =
     record { value = x; divider = dividerOf (a % 4); prescaler = 1; expired = false; flag = false; enable = bit 3 a }
 
--- PA7 control: bit 0 picks the rising edge, bit 1 is the enable; the flag stays
+-- the address, not the byte written, says which edge of PA7 counts and whether it interrupts; a flag that stands is left
 abbrev pub controlled : ℕ → Pa7 → Pa7
 controlled a e = record { flag = e .flag; enable = bit 1 a; rising = bit 0 a }
 
--- bit 2 clear: a port; set: bit 4 set loads the timer, clear sets PA7 control
+-- address bit 2 parts the ports from the rest, and bit 4 the timer from PA7
 unfoldable pub ioWritten : ℕ → ℕ → Io → Io
 ioWritten a x io =
     if not (bit 2 a) then portWritten (a % 4) x io else
     if bit 4 a then withTimer (loaded a x) io else
     withPa7 (controlled a (io .pa7)) io
 
--- bit 7 clear: RAM byte 0..127
+-- address bit 7 parts the RAM from all else
 unfoldable pub writeOf : ℕ → ℕ → Riot → Riot
 writeOf a x v = if not (bit 7 a) then withRam (set (v .ram) (a % 128) x) v else withIo (ioWritten a x (v .io)) v
 
 -- ---- reads
 
--- ports: a port reads as its lines
+-- a port is read off its lines, a direction as it was written
 abbrev pub portData : ℕ → Io → ℕ
 portData k io =
     if eqb k 0 then linesOf (io .a) else if eqb k 1 then io .a .ddr else if eqb k 2 then linesOf (io .b) else io .b .ddr
 
--- the flags: bit 7 the timer's, bit 6 PA7's, the others 0
+-- both flags in one byte, the timer's on top
 abbrev pub flagsOf : Io → ℕ
 flagsOf io = (if io .timer .flag then 128 else 0) + (if io .pa7 .flag then 64 else 0)
 
--- bit 2 clear: a port; set: bit 0 clear gives the timer, set the flags
+-- of what is no port, address bit 0 parts the timer from the flags
 unfoldable pub ioData : ℕ → Io → ℕ
 ioData a io = if not (bit 2 a) then portData (a % 4) io else if not (bit 0 a) then io .timer .value else flagsOf io
 
--- bit 7 clear: RAM byte 0..127
+-- what a read gives
 unfoldable pub dataOf : ℕ → Riot → ℕ
 dataOf a v = if not (bit 7 a) then getD (v .ram) (a % 128) 0 else ioData a (v .io)
 
--- a read of the timer clears its flag and takes bit 3 as its enable; one of the flags clears PA7's; others change nothing
+-- reading the timer takes its flag away and sets its enable from the address; reading the flags takes PA7's away; no other read has an effect
 unfoldable pub ioRead : ℕ → Io → Io
 ioRead a io =
     if not (bit 2 a) then io else

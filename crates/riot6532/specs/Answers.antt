@@ -12,7 +12,7 @@ use Rattle.riot6532.specs.declared.Riot.{Riot}
 use Rattle.riot6532.specs.declared.Answer.{Answer}
 use Rattle.riot6532.specs.declared.Outlook.{Outlook}
 
--- an accepted call: the data, and the lines of the record as it leaves it
+-- what an accepted call shows: the byte that it read, and the lines of the record that it leaves
 abbrev pub accepted : ℕ → Riot → Answer
 accepted d v =
     record {
@@ -24,16 +24,15 @@ accepted d v =
       riot = v;
     }
 
--- a refusal: its number, data 0, all lines 0, and the record as it was handed in
+-- a refused call shows its number and nothing else, and hands the record back untouched
 abbrev pub refused : ℕ → Riot → Answer
 refused n v = record { refusal = n; «data» = 0; irq = false; pa = 0; pb = 0; riot = v }
 
--- every call of the record v that would give the data d and leave `next`: refusal 1 exactly where v is not well formed
+-- a call on v that would give d and leave `next`: the one thing that this chip can refuse is an ill-formed v
 unfoldable pub judged : Riot → ℕ → Riot → Answer
 judged v d next = if wellFormed v then accepted d next else refused 1 v
 
--- a forecast changes no record; of a well-formed one it says for every k whether the line is asserted after k clocks;
--- a refused one gives 0
+-- a forecast leaves the record, and says of every number of clocks whether the line stands after it; refused, it says 0
 pub record Foretold (v : Riot) (r : Outlook) : Type 0 where
   pub answer : r .answer ≡ judged v 0 v
   pub told : wellFormed v ≡ true → (k : ℕ) → irqOf (after k clockOf v .io) ≡ comes (r .forecast) k

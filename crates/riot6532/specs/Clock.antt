@@ -12,12 +12,12 @@ abbrev pub moved : ℕ → ℕ → Timer → Timer
 moved x p t =
     record { value = x; divider = t .divider; prescaler = p; expired = t .expired; flag = t .flag; enable = t .enable }
 
--- the passing of zero: the timer becomes 255, the flag is set, it is expired, p = 1
+-- the one passing of zero that counts: it raises the flag, and the timer has expired
 abbrev pub passed : Timer → Timer
 passed t = record { value = 255; divider = t .divider; prescaler = 1; expired = true; flag = true; enable = t .enable }
 
--- expired: the timer falls by one modulo 256 and sets no flag;
--- else p falls by one, and where that is 0 the timer passes zero, or falls by one with p = D
+-- an expired timer counts each clock, round and round, and raises nothing; a running one counts when the prescaler is used up,
+-- which a count that does not pass zero fills again
 unfoldable pub clocked : Timer → Timer
 clocked t =
     if t .expired then moved (lower 256 (t .value)) (t .prescaler) t else

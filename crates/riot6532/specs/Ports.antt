@@ -8,15 +8,15 @@ use Rattle.riot6532.specs.declared.Port.{Port}
 use Rattle.riot6532.specs.declared.Io.{Io}
 use Rattle.riot6532.specs.declared.Riot.{Riot}
 
--- a port line is the output bit where DDR is 1, else the outside level
+-- a line shows what the port puts out where it drives it, and what is outside where it does not
 abbrev pub linesOf : Port → ℕ
 linesOf p = merge (p .ddr) (p .output) (p .outside)
 
--- an edge of the chosen kind, of PA7's outside level
+-- whether PA7 went the chosen way, from the old levels outside port A to the new
 abbrev pub edge : Bool → ℕ → ℕ → Bool
 edge rising old new = if rising then not (bit 7 old) && bit 7 new else bit 7 old && not (bit 7 new)
 
--- new outside levels; an edge sets PA7's flag, enabled or not
+-- the levels outside are taken over, and PA7's edge raises its flag whether it may interrupt or not
 abbrev pub ioPinned : ℕ → ℕ → Io → Io
 ioPinned pa pb io =
     record {
@@ -34,6 +34,6 @@ ioPinned pa pb io =
 abbrev pub pinsOf : ℕ → ℕ → Riot → Riot
 pinsOf pa pb v = withIo (ioPinned pa pb (v .io)) v
 
--- the interrupt line is asserted exactly when the timer flag and its enable, or PA7's flag and its enable, are both set
+-- the line stands while a flag does that may interrupt
 abbrev pub irqOf : Io → Bool
 irqOf io = io .timer .flag && io .timer .enable || io .pa7 .flag && io .pa7 .enable

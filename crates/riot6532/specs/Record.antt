@@ -1,4 +1,4 @@
--- The record: which records are well formed, what power-up gives, and what a reset changes.
+-- The record: which ones can be taken, what it holds at power-up, and what a reset does to it.
 use mathlib.Core.List.{List}
 use mathlib.Core.Bool.{Bool, true, false, not, _&&_, _||_}
 use Prim.Native.Nat.{ℕ}
@@ -10,11 +10,11 @@ use Rattle.riot6532.specs.declared.Pa7.{Pa7}
 use Rattle.riot6532.specs.declared.Io.{Io}
 use Rattle.riot6532.specs.declared.Riot.{Riot}
 
--- the divider D is one of four
+-- the timer divides by one of four numbers
 abbrev pub isDivider : ℕ → Bool
 isDivider d = eqb d 1 || eqb d 8 || eqb d 64 || eqb d 1024
 
--- D is a divider, the prescaler p is in 1..D, and an expired timer has p = 1
+-- the prescaler lies within the divider, and an expired timer has nothing left to divide
 abbrev pub wellTimed : Timer → Bool
 wellTimed t =
     isDivider (t .divider)
@@ -22,7 +22,7 @@ wellTimed t =
     && leb (t .prescaler) (t .divider)
     && (not (t .expired) || eqb (t .prescaler) 1)
 
--- nothing else of the record can be ill formed: bytes and bools have no other values
+-- the timer is all that can be ill formed: every value of the other fields' types is allowed
 abbrev pub wellFormed : Riot → Bool
 wellFormed v = wellTimed (v .io .timer)
 
@@ -59,14 +59,14 @@ silent p = record { output = 0; ddr = 0; outside = p .outside }
 abbrev pub quiet : Pa7
 quiet = record { flag = false; enable = false; rising = false }
 
--- reset clears ports, DDRs, both flags and both enables and picks the falling edge; RAM, timer and outside levels stay
+-- a reset takes the ports off their lines and both interrupts away; it touches neither the RAM, nor where the timer stands, nor what is outside
 abbrev pub resetIo : Io → Io
 resetIo io = record { a = silent (io .a); b = silent (io .b); timer = flagged false false (io .timer); pa7 = quiet }
 
 abbrev pub resetOf : Riot → Riot
 resetOf v = withIo (resetIo (v .io)) v
 
--- power-up: RAM 0, timer 255 with D 1024, p 1 and not expired, outside levels 1, and the rest as a reset leaves it
+-- at power-up the RAM is empty, the timer is at the top of its slowest count, every outside level is high, and the rest is as after a reset
 abbrev pub powerUp : Riot
 powerUp =
     record {
