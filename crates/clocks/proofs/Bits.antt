@@ -1,15 +1,16 @@
 -- Bytes by their bits: and, or, not, a mask, and that the bits settle the number. Widths other than 8 are other n.
 use mathlib.Core.Path.{_≡_, refl, sym, ap, ap₂, _∙_}
-use mathlib.Core.Bool.{Bool, true, false, not, _||_, _&&_, or-false, and-true, and-false, true≢false}
-use Prim.Native.Nat.{ℕ, zero, suc, _+_, _-_, _*_, _/_, _%_, _^_, _<_, _≤_}
+use mathlib.Core.Bool.{Bool, true, false, not, _||_, _&&_, or-true, or-false, and-true, and-false, true≢false, false≢true}
+use Prim.Native.Nat.{ℕ, zero, suc, _+_, _-_, _*_, _/_, _%_, _^_, _<_, _≤_, min, zero-le}
 use native.Mathlib.Nat.{pow-suc, pow-succ', div-one, div-div-eq-div-mul, div-eq-of-lt}
+use native.Mathlib.Decide.{ℕ-discrete}
 use native.Mathlib.Omega.{arith}
-use lib.Dec.{eqb}
+use lib.Dec.{eqb, lit<, eqb·suc-zero, eqb·zero-suc, eqb·suc-suc}
 use lib.Pow.{pow-mono}
-use lib.Bits.{bitAnd, bitOr, and-shr, or-shr, and-mod, or-mod}
+use lib.Bits.{bitAnd, bitOr, and-step, and-le-l, and-shr, or-shr, and-mod, or-mod}
 use borrow.Author.Tests.{eq-eqb, ne-eqb, eqb-true}
 use Rattle.clocks.specs.Clocks.{if_then_else_}
-use Rattle.clocks.specs.Bits.{bit, withSet, withClear, merge}
+use Rattle.clocks.specs.Bits.{bit, withSet, withClear, withBit, merge, shares}
 
 -- what holds of both digits holds of a number below 2
 by-digit : (P : ℕ → Type 0) → P 0 → P 1 → (d : ℕ) → d < 2 → P d
@@ -83,12 +84,36 @@ bit-not (suc n) (suc k) x h l =
     ∙ bit-not n k (x / 2) (omega arith) (omega (arith, pow-suc 2 n))
     ∙ ap not (sym (bit-suc k x))
 
--- the mask of a byte: its bits set, cleared, and taken from one byte or another
+-- the mask of a number: its bits set, and taken away
 pub bit-set : (k m x : ℕ) → bit k (withSet m x) ≡ (bit k x || bit k m)
+unfolding withSet
 bit-set k m x = bit-or k x m
 
-pub bit-clear : (k m x : ℕ) → k < 8 → m < 256 → bit k (withClear m x) ≡ (bit k x && not (bit k m))
-bit-clear k m x h l = bit-and k x (255 - m) ∙ ap (λ (b : Bool). bit k x && b) (bit-not 8 k m h l)
+left-digit : (d e : ℕ) → d < 2 → e < 2 → eqb (d - min d e) 1 ≡ (eqb d 1 && not (eqb e 1))
+left-digit d e h g =
+    by-digit (λ d. eqb (d - min d e) 1 ≡ (eqb d 1 && not (eqb e 1)))
+    (by-digit (λ e. eqb (0 - min 0 e) 1 ≡ false) refl refl e g)
+    (by-digit (λ e. eqb (1 - min 1 e) 1 ≡ not (eqb e 1)) refl refl e g)
+    d h
+
+pub bit-clear : (k m x : ℕ) → bit k (withClear m x) ≡ (bit k x && not (bit k m))
+unfolding withClear
+bit-clear zero m x =
+    let a = and-step x m in
+    let l = and-le-l (x / 2) (m / 2) in
+    let e : (x - bitAnd x m) % 2 ≡ x % 2 - min (x % 2) (m % 2) = omega arith in
+    bit-zero (x - bitAnd x m)
+    ∙ ap (λ (d : ℕ). eqb d 1) e
+    ∙ left-digit (x % 2) (m % 2) (mod-two x) (mod-two m)
+    ∙ ap₂ (λ (p q : Bool). p && not q) (sym (bit-zero x)) (sym (bit-zero m))
+bit-clear (suc k) m x =
+    let a = and-step x m in
+    let l = and-le-l (x / 2) (m / 2) in
+    let e : (x - bitAnd x m) / 2 ≡ x / 2 - bitAnd (x / 2) (m / 2) = omega arith in
+    bit-suc k (x - bitAnd x m)
+    ∙ ap (bit k) e
+    ∙ bit-clear k (m / 2) (x / 2)
+    ∙ ap₂ (λ (p q : Bool). p && not q) (sym (bit-suc k x)) (sym (bit-suc k m))
 
 picked : (b x y : Bool) → (x && b || y && not b) ≡ (if b then x else y)
 picked true x y = ap₂ _||_ (and-true x) (and-false y) ∙ or-false x
@@ -98,7 +123,7 @@ pub bit-merge : (k m x y : ℕ) → k < 8 → m < 256 → bit k (merge m x y) �
 unfolding merge
 bit-merge k m x y h l =
     bit-or k (bitAnd x m) (bitAnd y (255 - m))
-    ∙ ap₂ _||_ (bit-and k x m) (bit-clear k m y h l)
+    ∙ ap₂ _||_ (bit-and k x m) (bit-and k y (255 - m) ∙ ap (λ (b : Bool). bit k y && b) (bit-not 8 k m h l))
     ∙ picked (bit k m) (bit k x) (bit k y)
 
 same-digit : (d e : ℕ) → d < 2 → e < 2 → eqb d 1 ≡ eqb e 1 → d ≡ e
@@ -116,3 +141,95 @@ same-bits (suc n) x y h g e =
     let high = same-bits n (x / 2) (y / 2) (omega (arith, pow-suc 2 n)) (omega (arith, pow-suc 2 n))
     (λ k l. sym (bit-suc k x) ∙ e (suc k) (omega arith) ∙ bit-suc k y) in
     omega arith
+
+below : (x : ℕ) → x < 2 ^ x
+below zero = lit< tt
+below (suc x) = omega (arith, pow-suc 2 x, below x)
+
+-- and so are two numbers all of whose bits are the same
+pub all-bits : (x y : ℕ) → ((k : ℕ) → bit k x ≡ bit k y) → x ≡ y
+all-bits x y e =
+    same-bits (x + y) x y
+    (omega (arith, below x, pow-mono {i = x} {j = x + y} (omega arith)))
+    (omega (arith, below y, pow-mono {i = y} {j = x + y} (omega arith)))
+    (λ k l. e k)
+
+-- a power of two has one bit
+pub bit-power : (k j : ℕ) → bit j (2 ^ k) ≡ eqb j k
+bit-power zero zero = bit-zero 1
+bit-power zero (suc j) = bit-suc j 1 ∙ bit-high 0 j 0 (lit< tt) zero-le ∙ sym (eqb·suc-zero j)
+bit-power (suc k) zero =
+    let e : 2 ^ suc k % 2 ≡ 0 = omega (arith, pow-suc 2 k) in
+    bit-zero (2 ^ suc k) ∙ ap (λ (d : ℕ). eqb d 1) e ∙ sym (eqb·zero-suc k)
+bit-power (suc k) (suc j) =
+    let e : 2 ^ suc k / 2 ≡ 2 ^ k = omega (arith, pow-suc 2 k) in
+    bit-suc j (2 ^ suc k) ∙ ap (bit j) e ∙ bit-power k j ∙ sym (eqb·suc-suc j k)
+
+-- a bit as it is said, the others as they were
+pub bit-with : (k : ℕ) (b : Bool) (j x : ℕ) → bit j (withBit k b x) ≡ (if eqb j k then b else bit j x)
+unfolding withBit
+bit-with k true j x =
+    bit-set j (2 ^ k) x ∙ ap (λ (q : Bool). bit j x || q) (bit-power k j) ∙ go (eqb j k)
+  where
+    go : (q : Bool) → (bit j x || q) ≡ (if q then true else bit j x)
+    go true = or-true (bit j x)
+    go false = or-false (bit j x)
+bit-with k false j x =
+    bit-clear j (2 ^ k) x ∙ ap (λ (q : Bool). bit j x && not q) (bit-power k j) ∙ go (eqb j k)
+  where
+    go : (q : Bool) → (bit j x && not q) ≡ (if q then false else bit j x)
+    go true = and-false (bit j x)
+    go false = and-true (bit j x)
+
+-- a bit put back where it was read, and one put over another
+pub with-same : (k x : ℕ) → withBit k (bit k x) x ≡ x
+with-same k x = all-bits _ _ (λ j. bit-with k (bit k x) j x ∙ go j (ℕ-discrete j k))
+  where
+    go : (j : ℕ) → Dec (j ≡ k) → (if eqb j k then bit k x else bit j x) ≡ bit j x
+    go j (yes e) = rw (eq-eqb j k e, e)
+    go j (no e) = rw (ne-eqb j k e)
+
+-- nothing is shared exactly where the two have no bit in common
+shares-none : (n x y : ℕ) → ((k : ℕ) → k < n → (bit k x && bit k y) ≡ false) → shares n x y ≡ false
+unfolding shares
+shares-none zero x y h = refl
+shares-none (suc n) x y h = rw (h n (omega arith)) (shares-none n x y (λ k l. h k (omega arith)))
+
+neither : (a b : Bool) → (a || b) ≡ false → (a ≡ false) × (b ≡ false)
+neither true b e = absurd (true≢false e)
+neither false b e = (refl, e)
+
+shares-some : (n x y : ℕ) → shares n x y ≡ false → (k : ℕ) → k < n → (bit k x && bit k y) ≡ false
+unfolding shares
+shares-some zero x y h k l = absurd (omega arith)
+shares-some (suc n) x y h k l =
+    let e = neither (bit n x && bit n y) (shares n x y) h in
+    go (λ g. shares-some n x y (e .1) k g) (e .0) (ℕ-discrete k n)
+  where
+    go : (k < n → (bit k x && bit k y) ≡ false) → (bit n x && bit n y) ≡ false → Dec (k ≡ n) → (bit k x && bit k y) ≡ false
+    go below here (yes e) = rw e here
+    go below here (no e) = below (omega arith)
+
+pub shares-and : (n x y : ℕ) → x < 2 ^ n → shares n x y ≡ not (eqb (bitAnd x y) 0)
+shares-and n x y l = go (ℕ-discrete (bitAnd x y) 0) (shares n x y) refl
+  where
+    none : (k : ℕ) → bit k 0 ≡ false
+    none k = bit-high 0 k 0 (lit< tt) zero-le
+
+    zero-and : shares n x y ≡ false → bitAnd x y ≡ 0
+    zero-and h =
+        same-bits n (bitAnd x y) 0 (omega (arith, and-le-l x y)) (omega arith)
+        (λ k g. bit-and k x y ∙ shares-some n x y h k g ∙ sym (none k))
+
+    go : Dec (bitAnd x y ≡ 0) → (b : Bool) → shares n x y ≡ b → shares n x y ≡ not (eqb (bitAnd x y) 0)
+    go (yes e) b h =
+        rw (eq-eqb (bitAnd x y) 0 e) (shares-none n x y (λ k g. sym (bit-and k x y) ∙ ap (bit k) e ∙ none k))
+    go (no e) true h = h ∙ ap not (sym (ne-eqb (bitAnd x y) 0 e))
+    go (no e) false h = absurd (e (zero-and h))
+
+-- taking a mask's bits away is an and with the others
+pub clear-and : (m x : ℕ) → m < 256 → x < 256 → withClear m x ≡ bitAnd x (255 - m)
+unfolding withClear
+clear-and m x h l =
+    same-bits 8 (x - bitAnd x m) (bitAnd x (255 - m)) (omega arith) (omega (arith, and-le-l x (255 - m)))
+    (λ k g. unfold withClear in bit-clear k m x ∙ sym (bit-and k x (255 - m) ∙ ap (λ (b : Bool). bit k x && b) (bit-not 8 k m g h)))

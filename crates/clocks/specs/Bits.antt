@@ -1,20 +1,30 @@
 -- The bits of a byte.
-use mathlib.Core.Bool.{Bool}
-use Prim.Native.Nat.{ℕ, _-_, _/_, _%_, _^_}
+use mathlib.Core.Bool.{Bool, true, false, _&&_, _||_}
+use Prim.Native.Nat.{ℕ, zero, suc, _-_, _/_, _%_, _^_}
 use lib.Dec.{eqb}
 use lib.Bits.{bitAnd, bitOr}
+use Rattle.clocks.specs.Clocks.{if_then_else_}
 
 -- whether bit k of x is set
 unfoldable pub bit : ℕ → ℕ → Bool
 bit k x = eqb (x / 2 ^ k % 2) 1
 
--- x with the bits of the mask m set, and with them clear
-abbrev pub withSet : ℕ → ℕ → ℕ
+-- x with the bits of the mask m set, and with those that both have taken away
+unfoldable pub withSet : ℕ → ℕ → ℕ
 withSet m x = bitOr x m
 
-abbrev pub withClear : ℕ → ℕ → ℕ
-withClear m x = bitAnd x (255 - m)
+unfoldable pub withClear : ℕ → ℕ → ℕ
+withClear m x = x - bitAnd x m
+
+-- x with bit k as b says
+unfoldable pub withBit : ℕ → Bool → ℕ → ℕ
+withBit k b x = if b then withSet (2 ^ k) x else withClear (2 ^ k) x
 
 -- the bits of x where the mask m is 1, those of y where it is 0
 unfoldable pub merge : ℕ → ℕ → ℕ → ℕ
 merge m x y = bitOr (bitAnd x m) (bitAnd y (255 - m))
+
+-- whether one of the low n bits is set in both x and y
+unfoldable pub shares : ℕ → ℕ → ℕ → Bool
+shares zero x y = false
+shares (suc n) x y = bit n x && bit n y || shares n x y

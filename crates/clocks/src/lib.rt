@@ -2,7 +2,7 @@
 ghost use mathlib.Core.Path.{_≡_};
 ghost use Rattle.clocks.specs.Clocks.{if_then_else_};
 ghost use Rattle.clocks.specs.Forecasts.{numberOf, soonerOf};
-ghost use Rattle.clocks.specs.Bits.{bit as bitOf, merge as mergeOf};
+ghost use Rattle.clocks.specs.Bits.{bit as bitOf, withSet, withClear, merge as mergeOf, shares as sharesOf};
 
 // After how many clocks a thing comes to stand.
 pub enum Forecast {
@@ -61,4 +61,18 @@ pub fn merge(mask: u8, x: u8, y: u8) -> u8
     ensures { λ r. ⌜ r ≡ mergeOf mask x y ⌝ }
 {
     (x & mask) | (y & !mask)
+}
+
+// x with the bits of the mask set, or taken away.
+pub fn with_mask(mask: u8, on: bool, x: u8) -> u8
+    ensures { λ r. ⌜ r ≡ (if on then withSet mask x else withClear mask x) ⌝ }
+{
+    if on { x | mask } else { x & !mask }
+}
+
+// Whether some bit is set in both bytes.
+pub fn shares(x: u8, y: u8) -> bool
+    ensures { λ r. ⌜ r ≡ sharesOf 8 x y ⌝ }
+{
+    x & y != 0
 }
