@@ -50,3 +50,8 @@ gate-comes false f k = sym (and-false (comes f k))
 pub now-comes : (b : Bool) (f : Forecast) (k : ℕ) → comes (if b then In 0 else f) k ≡ (b || comes f k)
 now-comes true f k = leb·zero k
 now-comes false f k = refl
+
+-- what stands already, or comes as forecast
+pub stood-comes : (b : Bool) (f : Forecast) (k : ℕ) → (comes f k || b) ≡ comes (if b then In 0 else f) k
+stood-comes true f k = or-true (comes f k) ∙ sym (leb·zero k)
+stood-comes false f k = or-false (comes f k)

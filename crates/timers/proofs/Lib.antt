@@ -1,0 +1,4 @@
+pub mod Parity
+pub mod Firsts
+pub mod Seconds
+pub mod Pairs

@@ -1,0 +1,40 @@
+-- One clock of T1.
+use mathlib.Core.Bool.{Bool, true, false, not, _||_, _&&_}
+use Prim.Native.Nat.{ℕ, _-_}
+use lib.Dec.{eqb}
+use Rattle.clocks.specs.Clocks.{if_then_else_}
+use Rattle.timers.specs.declared.T1.{T1}
+
+-- the counter at c, with no reload to come
+abbrev pub at : ℕ → T1 → T1
+at c t =
+    record {
+      counter = c;
+      latch = t .latch;
+      armed = t .armed;
+      mark = false;
+      level = t .level;
+      flag = t .flag;
+      free = t .free;
+    }
+
+-- the passing of zero: free-run flags each one, asks for a reload and turns the level round; one-shot flags only if armed,
+-- which it then is no more, and the level has gone high
+abbrev pub passed : T1 → T1
+passed t =
+    record {
+      counter = 65535;
+      latch = t .latch;
+      armed = t .free && t .armed;
+      mark = t .free;
+      level = if t .free then not (t .level) else t .armed || t .level;
+      flag = t .free || t .armed || t .flag;
+      free = t .free;
+    }
+
+-- a reload that is due takes the whole clock; else the counter falls, and 0 is followed by the passing
+unfoldable pub clocked : T1 → T1
+clocked t =
+    if t .mark then at (t .latch) t else
+    if eqb (t .counter) 0 then passed t else
+    at (t .counter - 1) t
