@@ -195,6 +195,13 @@ unfolding shares
 shares-none zero x y h = refl
 shares-none (suc n) x y h = rw (h n (omega arith)) (shares-none n x y (λ k l. h k (omega arith)))
 
+-- what is shared goes by the bits alone
+pub shares-same : (n x x′ y : ℕ) → ((k : ℕ) → k < n → bit k x ≡ bit k x′) → shares n x y ≡ shares n x′ y
+unfolding shares
+shares-same zero x x′ y h = refl
+shares-same (suc n) x x′ y h =
+    ap₂ (λ (p q : Bool). p && bit n y || q) (h n (omega arith)) (shares-same n x x′ y (λ k l. h k (omega arith)))
+
 neither : (a b : Bool) → (a || b) ≡ false → (a ≡ false) × (b ≡ false)
 neither true b e = absurd (true≢false e)
 neither false b e = (refl, e)

@@ -23,6 +23,13 @@ impl Forecast {
         }
     }
 
+    // The forecast of what comes only where it is let through.
+    pub fn gated(self, through: bool) -> Forecast
+        ensures { λ r. ⌜ r ≡ (if through then self else Forecast.Never) ⌝ }
+    {
+        if through { self } else { Forecast::Never }
+    }
+
     pub fn sooner(self, other: Forecast) -> Forecast
         ensures { λ r. ⌜ r ≡ soonerOf self other ⌝ }
     {

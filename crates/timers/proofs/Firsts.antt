@@ -10,6 +10,7 @@ use Rattle.clocks.specs.Clocks.{if_then_else_, after}
 use Rattle.clocks.specs.Forecasts.{comes}
 use Rattle.clocks.specs.declared.Forecast.{Forecast}
 use Rattle.clocks.specs.declared.Forecast.the-variants.{Never, In}
+use Rattle.clocks.proofs.Tests.{picked}
 use Rattle.clocks.proofs.Turns.{Turns, after-short, after-past, flag-after}
 use Rattle.clocks.proofs.Forecasts.{stood-comes}
 use Rattle.timers.specs.First.{at, passed, clocked}
@@ -120,3 +121,10 @@ dueOf t = if t .flag then In 0 else if t .free || t .armed then In (topOf t + 1)
 pub flag-due : (t : T1) (k : ℕ) → after k clocked t .flag ≡ comes (dueOf t) k
 flag-due t k =
     flag-after-is t k ∙ stood-comes (t .flag) (if t .free || t .armed then In (topOf t + 1) else Never) k
+
+-- a clock keeps the mode
+pub keeps-free : (t : T1) → clocked t .free ≡ t .free
+unfolding clocked
+keeps-free t =
+    picked (λ (u : T1). u .free ≡ t .free) (t .mark) refl
+    (picked (λ (u : T1). u .free ≡ t .free) (eqb (t .counter) 0) refl refl)

@@ -10,7 +10,7 @@ use Rattle.clocks.specs.declared.Forecast.{Forecast}
 use Rattle.clocks.specs.declared.Forecast.the-variants.{Never, In}
 use Rattle.clocks.proofs.Turns.{Turns, after-short, after-past, flag-after}
 use Rattle.clocks.proofs.Clocks.{after-keeps}
-use Rattle.clocks.proofs.Tests.{on-false}
+use Rattle.clocks.proofs.Tests.{on-false, picked}
 use Rattle.clocks.proofs.Forecasts.{stood-comes}
 use Rattle.timers.specs.Second.{counted, clocked}
 use Rattle.timers.specs.declared.T2.{T2}
@@ -90,3 +90,12 @@ flag-due t k = go (t .pulse) refl ∙ stood-comes (t .flag) (if t .armed && not 
         ap (λ (u : T2). u .flag) (counting k t p)
         ∙ flag-after (turns t) (λ u. u .flag) (t .armed) (record { kept = λ k. refl; raised = λ q k. refl }) k
         ∙ rw (p, and-true)
+
+-- a count and a clock keep the mode
+pub counted-pulse : (t : T2) → counted t .pulse ≡ t .pulse
+unfolding counted
+counted-pulse t = refl
+
+pub keeps-mode : (t : T2) → clocked t .pulse ≡ t .pulse
+unfolding clocked counted
+keeps-mode t = picked (λ (u : T2). u .pulse ≡ t .pulse) (t .pulse) refl refl

@@ -1,0 +1,6 @@
+use borrow.Author.Needs.{needs}
+use Rattle.via6522.proofs.Via.counted2.Statement.{statement}
+use Rattle.via6522.proofs.Via.counted2.Tie as tie
+
+pub counted2-spec : {M : Type 1} → statement M
+counted2-spec = tie.close (tie.spec (λ c κs. search needs) (λ c κs. search needs) (λ c κs. search needs) (λ c. cc))

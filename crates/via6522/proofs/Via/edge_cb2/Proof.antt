@@ -1,0 +1,6 @@
+use borrow.Author.Needs.{needs}
+use Rattle.via6522.proofs.Via.edge_cb2.Statement.{statement}
+use Rattle.via6522.proofs.Via.edge_cb2.Tie as tie
+
+pub edge-cb2-spec : {M : Type 1} → statement M
+edge-cb2-spec = tie.close (tie.spec (λ c κs. search needs) (λ c κs. search needs) (λ c κs. search needs) (λ c. cc))

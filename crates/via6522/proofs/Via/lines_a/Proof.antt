@@ -1,0 +1,11 @@
+use borrow.Author.Needs.{needs}
+use Rattle.via6522.specs.Ports.{linesA}
+use Rattle.via6522.proofs.Via.lines_a.Statement.{statement}
+use Rattle.via6522.proofs.Via.lines_a.Tie as tie
+
+returns : tie.Need-returns
+unfolding linesA
+returns c = cc
+
+pub lines-a-spec : {M : Type 1} → statement M
+lines-a-spec = tie.close (tie.spec (λ c κs. search needs) returns)

@@ -1,0 +1,6 @@
+use borrow.Author.Needs.{needs}
+use Rattle.via6522.proofs.Via.pulse.Statement.{statement}
+use Rattle.via6522.proofs.Via.pulse.Tie as tie
+
+pub pulse-spec : {M : Type 1} → statement M
+pulse-spec = tie.close (tie.spec (λ c κs. search needs) (λ c κs. search needs) (λ c κs. search needs) (λ c. cc))

@@ -1,0 +1,33 @@
+use borrow.Author.Needs.{needs}
+use borrow.Author.Tests.{ne-eqb}
+use mathlib.Core.Path.{_∙_}
+use Rattle.via6522.specs.Access.{readClears}
+use Rattle.via6522.proofs.Via.read_clears.Statement.{statement}
+use Rattle.via6522.proofs.Via.read_clears.Tie as tie
+
+returns : tie.Need-returns
+unfolding readClears
+returns c = c .flags-b .ensures ∙ rw (c .before .match .keys1)
+
+returns-2 : tie.Need-returns-2
+unfolding readClears
+returns-2 c = c .flags-a .ensures ∙ rw (c .before .match .keys2)
+
+returns-3 : tie.Need-returns-3
+unfolding readClears
+returns-3 c = rw (c .match .keys3)
+
+returns-4 : tie.Need-returns-4
+unfolding readClears
+returns-4 c = rw (c .match .keys4)
+
+returns-5 : tie.Need-returns-5
+unfolding readClears
+returns-5 c = rw (c .match .keys5)
+
+returns-6 : tie.Need-returns-6
+unfolding readClears
+returns-6 c = let r = c .match .rest in rw (ne-eqb _ 0 (r .0 .0 .0 .0 .1), ne-eqb _ 1 (r .0 .0 .0 .1), ne-eqb _ 4 (r .0 .0 .1), ne-eqb _ 8 (r .0 .1), ne-eqb _ 10 (r .1))
+
+pub read-clears-spec : {M : Type 1} → statement M
+read-clears-spec = tie.close (tie.spec (λ c κs. search needs) (λ c κs. search needs) returns returns-2 returns-3 returns-4 returns-5 returns-6)

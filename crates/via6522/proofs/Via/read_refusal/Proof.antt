@@ -1,0 +1,11 @@
+use borrow.Author.Needs.{needs}
+use Rattle.via6522.specs.Answers.{readRefusal}
+use Rattle.via6522.proofs.Via.read_refusal.Statement.{statement}
+use Rattle.via6522.proofs.Via.read_refusal.Tie as tie
+
+returns : tie.Need-returns
+unfolding readRefusal
+returns c = cc
+
+pub read-refusal-spec : {M : Type 1} → statement M
+read-refusal-spec = tie.close (tie.spec (λ c κs. search needs) (λ c κs. search needs) (λ c κs. search needs) returns)

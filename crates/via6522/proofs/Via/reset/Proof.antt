@@ -1,0 +1,6 @@
+use borrow.Author.Needs.{needs}
+use Rattle.via6522.proofs.Via.reset.Statement.{statement}
+use Rattle.via6522.proofs.Via.reset.Tie as tie
+
+pub reset-spec : {M : Type 1} → statement M
+reset-spec = tie.close (tie.spec (λ c κs. search needs) (λ c κs. search needs) (λ c κs. search needs) (λ c. cc))

@@ -1,0 +1,6 @@
+use borrow.Author.Needs.{needs}
+use Rattle.via6522.proofs.Via.run.Statement.{statement}
+use Rattle.via6522.proofs.Via.run.Tie as tie
+
+pub run-spec : {M : Type 1} → statement M
+run-spec = tie.close (tie.spec (λ c κs. search needs) (λ c κs. search needs) (λ c κs. search needs) (λ c. cc))

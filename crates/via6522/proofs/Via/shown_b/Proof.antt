@@ -1,0 +1,11 @@
+use borrow.Author.Needs.{needs}
+use Rattle.via6522.specs.Ports.{shownB}
+use Rattle.via6522.proofs.Via.shown_b.Statement.{statement}
+use Rattle.via6522.proofs.Via.shown_b.Tie as tie
+
+returns : tie.Need-returns
+unfolding shownB
+returns c = cc
+
+pub shown-b-spec : {M : Type 1} → statement M
+shown-b-spec = tie.close (tie.spec (λ c κs. search needs) (λ c κs. search needs) (λ c κs. search needs) (λ c κs. search needs) returns)

@@ -1,0 +1,11 @@
+use borrow.Author.Needs.{needs}
+use Rattle.via6522.specs.Closed.{soonest}
+use Rattle.via6522.proofs.Via.soonest.Statement.{statement}
+use Rattle.via6522.proofs.Via.soonest.Tie as tie
+
+returns : tie.Need-returns
+unfolding soonest
+returns c = cc
+
+pub soonest-spec : {M : Type 1} → statement M
+soonest-spec = tie.close (tie.spec (λ c κs. search needs) (λ c κs. search needs) (λ c κs. search needs) (λ c κs. search needs) (λ c κs. search needs) (λ c κs. search needs) (λ c κs. search needs) (λ c κs. search needs) returns)

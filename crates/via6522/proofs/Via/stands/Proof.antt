@@ -1,0 +1,12 @@
+use borrow.Author.Needs.{needs}
+use Rattle.clocks.specs.Bits.{withBit}
+use Rattle.via6522.specs.Closed.{stands}
+use Rattle.via6522.proofs.Via.stands.Statement.{statement}
+use Rattle.via6522.proofs.Via.stands.Tie as tie
+
+returns : tie.Need-returns
+unfolding stands withBit
+returns c = cc
+
+pub stands-spec : {M : Type 1} → statement M
+stands-spec = tie.close (tie.spec (λ c κs. search needs) (λ c κs. search needs) (λ c κs. search needs) returns)

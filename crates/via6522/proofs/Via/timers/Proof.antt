@@ -1,0 +1,11 @@
+use borrow.Author.Needs.{needs}
+use Rattle.via6522.specs.Clock.{timersOf}
+use Rattle.via6522.proofs.Via.timers.Statement.{statement}
+use Rattle.via6522.proofs.Via.timers.Tie as tie
+
+returns : tie.Need-returns
+unfolding timersOf
+returns c = cc
+
+pub timers-spec : {M : Type 1} → statement M
+timers-spec = tie.close (tie.spec (λ c κs. search needs) (λ c κs. search needs) (λ c κs. search needs) (λ c κs. search needs) returns)

@@ -1,0 +1,11 @@
+use borrow.Author.Needs.{needs}
+use Rattle.via6522.specs.Answers.{writeRefusal}
+use Rattle.via6522.proofs.Via.write_refusal.Statement.{statement}
+use Rattle.via6522.proofs.Via.write_refusal.Tie as tie
+
+returns : tie.Need-returns
+unfolding writeRefusal
+returns c = cc
+
+pub write-refusal-spec : {M : Type 1} → statement M
+write-refusal-spec = tie.close (tie.spec (λ c κs. search needs) (λ c κs. search needs) (λ c κs. search needs) (λ c κs. search needs) (λ c κs. search needs) returns)

@@ -1,0 +1,6 @@
+use borrow.Author.Needs.{needs}
+use Rattle.via6522.proofs.pins.raised.Statement.{statement}
+use Rattle.via6522.proofs.pins.raised.Tie as tie
+
+pub raised-spec : {M : Type 1} → statement M
+raised-spec = tie.close (tie.spec (λ c κs. search needs) (λ c κs. search needs) (λ c. cc))

@@ -1,0 +1,57 @@
+-- The timer pair of the chip, and one clock.
+use mathlib.Core.Bool.{Bool, true, false}
+use Rattle.clocks.specs.Bits.{bit, withBit}
+use Rattle.timers.specs.Pair as Pair
+use Rattle.timers.specs.declared.Timers.{Timers}
+use Rattle.via6522.specs.declared.Via.{Via}
+
+-- the pair: its flags stand in IFR bits 6 and 5, its modes in ACR bits 6 and 5
+unfoldable pub timersOf : Via → Timers
+timersOf v =
+    record {
+      t1 =
+          record {
+            counter = v .t1 .counter;
+            latch = v .t1 .latch;
+            armed = v .t1 .armed;
+            mark = v .t1 .mark;
+            level = v .t1 .level;
+            flag = bit 6 (v .ifr);
+            free = bit 6 (v .acr);
+          };
+      t2 =
+          record {
+            counter = v .t2 .counter;
+            low = v .t2 .low;
+            armed = v .t2 .armed;
+            flag = bit 5 (v .ifr);
+            pulse = bit 5 (v .acr);
+          };
+    }
+
+-- the chip with another pair; the modes are ACR's and stay
+unfoldable pub withTimers : Timers → Via → Via
+withTimers p v =
+    record {
+      a = v .a;
+      b = v .b;
+      t1 =
+          record {
+            counter = p .t1 .counter;
+            latch = p .t1 .latch;
+            armed = p .t1 .armed;
+            mark = p .t1 .mark;
+            level = p .t1 .level;
+          };
+      t2 = record { counter = p .t2 .counter; low = p .t2 .low; armed = p .t2 .armed };
+      sr = v .sr;
+      acr = v .acr;
+      pcr = v .pcr;
+      ifr = withBit 6 (p .t1 .flag) (withBit 5 (p .t2 .flag) (v .ifr));
+      ier = v .ier;
+      control = v .control;
+    }
+
+-- a clock moves the pair and nothing else
+unfoldable pub clockOf : Via → Via
+clockOf v = withTimers (Pair.clocked (timersOf v)) v

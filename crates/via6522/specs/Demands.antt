@@ -1,0 +1,1 @@
+-- What demand 3 asks of the 6522.
