@@ -9,6 +9,8 @@ use lib.Dec.{eqb, lit<, eqb·suc-zero, eqb·zero-suc, eqb·suc-suc}
 use lib.Pow.{pow-mono}
 use lib.Bits.{bitAnd, bitOr, and-step, and-le-l, and-shr, or-shr, and-mod, or-mod}
 use borrow.Author.Tests.{eq-eqb, ne-eqb, eqb-true}
+use mathlib.Core.Logic.{_⊎_, inl, inr}
+use Rattle.clocks.proofs.Tests.{both, either}
 use Rattle.clocks.specs.Clocks.{if_then_else_}
 use Rattle.clocks.specs.Bits.{bit, withSet, withClear, withBit, merge, shares}
 
@@ -240,3 +242,28 @@ unfolding withClear
 clear-and m x h l =
     same-bits 8 (x - bitAnd x m) (bitAnd x (255 - m)) (omega arith) (omega (arith, and-le-l x (255 - m)))
     (λ k g. unfold withClear in bit-clear k m x ∙ sym (bit-and k x (255 - m) ∙ ap (λ (b : Bool). bit k x && b) (bit-not 8 k m g h)))
+
+-- a shared bit is one that both have, and such a bit is shared
+pub shares-found : (n x y : ℕ) → shares n x y ≡ true → (k : ℕ) × (k < n) × (bit k x ≡ true) × (bit k y ≡ true)
+unfolding shares
+shares-found zero x y e = absurd (false≢true e)
+shares-found (suc n) x y e = go (λ h. shares-found n x y h) (either (bit n x && bit n y) (shares n x y) e)
+  where
+    go :
+        (shares n x y ≡ true → (k : ℕ) × (k < n) × (bit k x ≡ true) × (bit k y ≡ true))
+        → ((bit n x && bit n y) ≡ true) ⊎ (shares n x y ≡ true)
+        → (k : ℕ) × (k < suc n) × (bit k x ≡ true) × (bit k y ≡ true)
+    go below (inl h) = let b = both (bit n x) (bit n y) h in (n, omega arith, b .0, b .1)
+    go below (inr h) = let f = below h in let l = f .1 in (f .0, omega arith, f .2, f .3)
+
+pub shares-by : (n x y k : ℕ) → k < n → bit k x ≡ true → bit k y ≡ true → shares n x y ≡ true
+unfolding shares
+shares-by zero x y k l p q = absurd (omega arith)
+shares-by (suc n) x y k l p q = go (λ h. shares-by n x y k h p q) (ℕ-discrete k n)
+  where
+    go : (k < n → shares n x y ≡ true) → Dec (k ≡ n) → (bit n x && bit n y || shares n x y) ≡ true
+    go below (yes e) =
+        let a : bit n x ≡ true = rw e at p in
+        let b : bit n y ≡ true = rw e at q in
+        rw (a, b)
+    go below (no e) = rw (below (omega arith)) (or-true (bit n x && bit n y))

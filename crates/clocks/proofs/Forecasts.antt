@@ -11,6 +11,7 @@ use Rattle.clocks.specs.Clocks.{if_then_else_}
 use Rattle.clocks.specs.Forecasts.{comes, soonerOf}
 use Rattle.clocks.specs.declared.Forecast.{Forecast}
 use Rattle.clocks.specs.declared.Forecast.the-variants.{Never, In}
+use Rattle.clocks.proofs.Tests.{picked}
 
 -- it stands at the number that is forecast, and not before
 pub comes-at : (d : ℕ) → comes (In d) d ≡ true
@@ -55,3 +56,20 @@ now-comes false f k = refl
 pub stood-comes : (b : Bool) (f : Forecast) (k : ℕ) → (comes f k || b) ≡ comes (if b then In 0 else f) k
 stood-comes true f k = or-true (comes f k) ∙ sym (leb·zero k)
 stood-comes false f k = or-false (comes f k)
+
+-- a forecast that is never, or at most n
+abbrev pub AtMost : ℕ → Forecast → Type 0
+AtMost n Never = Unit {0}
+AtMost n (In d) = d ≤ n
+
+pub most-sooner : (n : ℕ) (f g : Forecast) → AtMost n f → AtMost n g → AtMost n (soonerOf f g)
+most-sooner n Never g a b = b
+most-sooner n (In x) Never a b = a
+most-sooner n (In x) (In y) a b = picked (AtMost n) (leb x y) a b
+
+pub most-gated : (n : ℕ) (y : Bool) (f : Forecast) → AtMost n f → AtMost n (if y then f else Never)
+most-gated n y f a = picked (AtMost n) y a tt
+
+pub most-in : (n d : ℕ) (f : Forecast) → AtMost n f → f ≡ In d → d ≤ n
+most-in n d Never a e = let z : _≡_ {A = ℕ} 0 1 = cc in absurd (omega arith)
+most-in n d (In x) a e = let z : x ≡ d = cc in omega arith

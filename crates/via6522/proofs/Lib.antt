@@ -1,2 +1,5 @@
 pub mod Lens
 pub mod Lines
+pub mod Formed
+pub mod Kept
+pub mod Demands

@@ -1,0 +1,182 @@
+-- The statements of specs/Demands.antt, proved.
+use mathlib.Core.Path.{_≡_, refl, sym, ap, _∙_}
+use mathlib.Core.Bool.{Bool, true, false, not, _&&_, _||_, false≢true}
+use mathlib.Core.Logic.{_↔_}
+use Prim.Native.Nat.{ℕ, zero, suc, _+_, _<_, _≤_}
+use native.Mathlib.Decide.{decLt}
+use native.Mathlib.Omega.{arith}
+use Rattle.clocks.specs.Clocks.{if_then_else_, after}
+use Rattle.clocks.specs.Bits.{bit, shares}
+use Rattle.clocks.specs.Forecasts.{comes, soonerOf}
+use Rattle.clocks.specs.declared.Forecast.{Forecast}
+use Rattle.clocks.specs.declared.Forecast.the-variants.{Never, In}
+use Rattle.clocks.proofs.Tests.{picked}
+use Rattle.clocks.proofs.Forecasts.{comes-one, comes-at, comes-not-before, AtMost, most-sooner, most-gated, most-in}
+use Rattle.clocks.proofs.Bits.{bit-high, bit-merge, shares-found, shares-by}
+use Rattle.timers.proofs.Firsts as First
+use Rattle.timers.proofs.Seconds as Second
+use Rattle.timers.specs.Closed.{topOf}
+use Rattle.via6522.specs.Record.{wellFormed, powerUp, resetOf}
+use Rattle.via6522.specs.Flags.{irqOf}
+use Rattle.via6522.specs.Ports.{linesA}
+use Rattle.via6522.specs.Clock.{timersOf, clockOf}
+use Rattle.via6522.specs.Closed.{stands, soonest}
+use Rattle.via6522.specs.Answers.{refusal, readRefusal, writeRefusal, pinsRefusal, refused, Foretold}
+use Rattle.via6522.specs.Demands
+use Rattle.via6522.specs.Demands.{Call, reset, read, write, pins, clock, run, forecast, meets, leavesOf, answerOf, Reached}
+use Rattle.via6522.specs.declared.Via.{Via}
+use Rattle.via6522.specs.declared.Answer.{Answer}
+use Rattle.via6522.specs.declared.Outlook.{Outlook}
+use Rattle.via6522.proofs.Formed.{Formed, well}
+use Rattle.via6522.proofs.Lines.{line-after}
+use Rattle.via6522.proofs.Kept.{leaves-formed, answers, accepts, refuses, run-formed, well-kept, reached-formed, reached-ranged}
+
+-- an ill-formed record meets refusal 1, whatever the call
+meets-ill : (c : Call) (v : Via) → wellFormed v ≡ false → meets c v ≡ 1
+unfolding refusal readRefusal writeRefusal pinsRefusal
+meets-ill reset v w = rw w
+meets-ill (read r) v w = rw w
+meets-ill (write r x) v w = rw w
+meets-ill (pins pa pb control) v w = rw w
+meets-ill clock v w = rw w
+meets-ill (run n) v w = rw w
+meets-ill forecast v w = rw w
+
+-- and a clock, a run or a forecast of a well-formed one meets none
+well-none : (v : Via) → wellFormed v ≡ true → refusal v ≡ 0
+unfolding refusal
+well-none v w = rw w
+
+pub refused-leaves : Demands.Refused-leaves
+refused-leaves c v h = refuses c v (λ e. h (ap (λ (r : Answer). r .refusal) (accepts c v e)))
+
+pub refuses-ill : Demands.Refuses-ill
+refuses-ill c v w =
+    let e = meets-ill c v w in
+    refuses c v (λ z. let q : _≡_ {A = ℕ} 1 0 = sym e ∙ z in omega arith) ∙ ap (λ (n : ℕ). refused n v) e
+
+pub power-up-well : Demands.Power-up-well
+power-up-well = refl
+
+pub power-up-reset : Demands.Power-up-reset
+unfolding resetOf
+power-up-reset = refl
+
+pub keeps-well : Demands.Keeps-well
+keeps-well = well-kept
+
+pub reached-well : Demands.Reached-well
+reached-well v r = well v (reached-formed v r)
+
+pub lines-by-bit : Demands.Lines-by-bit
+unfolding linesA
+lines-by-bit v k h l = bit-merge k (v .a .ddr) (v .a .output) (v .a .outside) h l
+
+-- the line of a record whose flags are seven bits
+raised : (v : Via) → Formed v → (irqOf v ≡ true) ↔ Demands.Raised v
+raised v h = (λ e. let f = shares-found 8 (v .ifr) (v .ier) e in (f .0, f .2, f .3), λ f. back f)
+  where
+    small : (k : ℕ) → bit k (v .ifr) ≡ true → k < 8
+    small k e = go (decLt k 8)
+      where
+        go : Dec (k < 8) → k < 8
+        go (yes l) = l
+        go (no l) = absurd (false≢true (sym (bit-high 7 k (v .ifr) (h .flags) (omega arith)) ∙ e))
+
+    back : Demands.Raised v → irqOf v ≡ true
+    back f = shares-by 8 (v .ifr) (v .ier) (f .0) (small (f .0) (f .1)) (f .1) (f .2)
+
+pub line-exact : Demands.Line-exact
+line-exact c v t r a =
+    let e = answers c v a in
+    rw (accepts c v e) (raised (leavesOf c v) (leaves-formed c v e (reached-formed v r)))
+
+module _ (v : Via) (r : Outlook) (w : wellFormed v ≡ true) (f : Foretold v r) where
+  -- the line after j clocks, where the forecast is g
+  said : (g : Forecast) → r .forecast ≡ g → (j : ℕ) → irqOf (after j clockOf v) ≡ comes g j
+  said g e j = f .told w j ∙ ap (λ (g : Forecast). comes g j) e
+
+  -- the forecast in closed form
+  closed : r .forecast ≡ soonest v (First.dueOf (timersOf v .t1)) (Second.dueOf (timersOf v .t2))
+  closed =
+      comes-one (r .forecast) _
+      (λ k. sym (f .told w k)
+      ∙ line-after v (First.dueOf (timersOf v .t1)) (Second.dueOf (timersOf v .t2)) (First.flag-due (timersOf v .t1)) (Second.flag-due (timersOf v .t2)) k)
+
+pub forecast-least : Demands.Forecast-least
+forecast-least v r d reached f e =
+    let w = reached-well v reached in
+    (said v r w f (In d) e d ∙ comes-at d, λ j h. said v r w f (In d) e j ∙ comes-not-before d j h)
+
+pub forecast-never : Demands.Forecast-never
+forecast-never v r reached f =
+    let w = reached-well v reached in
+    (λ e j. said v r w f Never e j, λ h. comes-one (r .forecast) Never (λ k. sym (f .told w k) ∙ h k))
+
+pub forecast-bound : Demands.Forecast-bound
+unfolding soonest timersOf
+forecast-bound v r d reached f e =
+    most-in 65537 d (soonest v (First.dueOf (timersOf v .t1)) (Second.dueOf (timersOf v .t2))) most
+    (sym (closed v r (reached-well v reached) f) ∙ e)
+  where
+    due1 : AtMost 65537 (First.dueOf (timersOf v .t1))
+    due1 =
+        let a = reached-ranged v reached .latch in
+        let b = reached-ranged v reached .counter in
+        picked (AtMost 65537) (timersOf v .t1 .flag) (omega arith)
+        (most-gated 65537 (timersOf v .t1 .free || timersOf v .t1 .armed) (In (topOf (timersOf v .t1) + 1)) (picked (λ (k : ℕ). k + 1 ≤ 65537) (v .t1 .mark) (omega arith) (omega arith)))
+
+    due2 : AtMost 65537 (Second.dueOf (timersOf v .t2))
+    due2 =
+        let b = reached-ranged v reached .counter2 in
+        picked (AtMost 65537) (timersOf v .t2 .flag) (omega arith)
+        (most-gated 65537 (timersOf v .t2 .armed && not (timersOf v .t2 .pulse)) (In (v .t2 .counter + 1)) (omega arith))
+
+    first : Forecast
+    first = if bit 6 (v .ier) then First.dueOf (timersOf v .t1) else Never
+
+    second : Forecast
+    second = if bit 5 (v .ier) then Second.dueOf (timersOf v .t2) else Never
+
+    now : Forecast
+    now = if stands v then In 0 else Never
+
+    most : AtMost 65537 (soonest v (First.dueOf (timersOf v .t1)) (Second.dueOf (timersOf v .t2)))
+    most =
+        most-sooner 65537 first (soonerOf second now) (most-gated 65537 (bit 6 (v .ier)) (First.dueOf (timersOf v .t1)) due1)
+        (most-sooner 65537 second now (most-gated 65537 (bit 5 (v .ier)) (Second.dueOf (timersOf v .t2)) due2)
+        (most-gated 65537 (stands v) (In 0) (omega arith)))
+
+-- a refused clock leaves the record, an accepted one clocks it
+clock-call : Via → Via
+clock-call u = answerOf clock u .via
+
+well-clocks : (n : ℕ) (v : Via) → wellFormed v ≡ true → after n clock-call v ≡ after n clockOf v
+unfolding after clock-call
+well-clocks zero v w = refl
+well-clocks (suc n) v w =
+    ap clock-call (well-clocks n v w)
+    ∙ ap (λ (r : Answer). r .via) (accepts clock (after n clockOf v) (well-none (after n clockOf v) (run-formed n v w)))
+
+ill-clocks : (n : ℕ) (v : Via) → wellFormed v ≡ false → after n clock-call v ≡ v
+unfolding after clock-call
+ill-clocks zero v w = refl
+ill-clocks (suc n) v w = ap clock-call (ill-clocks n v w) ∙ ap (λ (r : Answer). r .via) (refuses-ill clock v w)
+
+pub run-single : Demands.Run-single
+unfolding clock-call
+run-single n v = go (wellFormed v) refl
+  where
+    go : (b : Bool) → wellFormed v ≡ b → answerOf (run n) v .via ≡ after n (λ u. answerOf clock u .via) v
+    go true w = ap (λ (r : Answer). r .via) (accepts (run n) v (well-none v w)) ∙ sym (well-clocks n v w)
+    go false w = ap (λ (r : Answer). r .via) (refuses-ill (run n) v w) ∙ sym (ill-clocks n v w)
+
+pub forecast-one : Demands.Forecast-one
+forecast-one v r s f g = go (wellFormed v) refl
+  where
+    same : r .forecast ≡ s .forecast → r ≡ s
+    same e = λ i. record { forecast = e i; answer = (f .answer ∙ sym (g .answer)) i }
+
+    go : (b : Bool) → wellFormed v ≡ b → r ≡ s
+    go true w = same (comes-one (r .forecast) (s .forecast) (λ k. sym (f .told w k) ∙ g .told w k))
+    go false w = same (f .refused w ∙ sym (g .refused w))

@@ -1,0 +1,52 @@
+-- What the test of a well-formed record says, and the test from what it says.
+use mathlib.Core.Path.{_≡_, refl}
+use mathlib.Core.Bool.{Bool, true, false, not, _&&_, _||_, false≢true}
+use Prim.Native.Nat.{ℕ, _<_}
+use lib.Dec.{eqb, ltb}
+use borrow.Author.Tests.{eqb-true, eq-eqb, ltb-true, lt-ltb}
+use Rattle.clocks.proofs.Tests.{both}
+use Rattle.via6522.specs.Record.{allowedAcr, allowedPcr, wellFormed}
+use Rattle.via6522.specs.declared.Via.{Via}
+
+pub record Formed (v : Via) : Type 0 where
+  pub flags : v .ifr < 128
+  pub enables : v .ier < 128
+  pub acr : allowedAcr (v .acr) ≡ true
+  pub pcr : allowedPcr (v .pcr) ≡ true
+  pub top : v .t1 .mark ≡ true → v .t1 .counter ≡ 65535
+  pub levels : v .control < 16
+
+at-top : (m : Bool) (c : ℕ) → (not m || eqb c 65535) ≡ true → m ≡ true → c ≡ 65535
+at-top true c h e = eqb-true c 65535 h
+at-top false c h e = absurd (false≢true e)
+
+top-test : (m : Bool) (c : ℕ) → (m ≡ true → c ≡ 65535) → (not m || eqb c 65535) ≡ true
+top-test true c h = eq-eqb c 65535 (h refl)
+top-test false c h = refl
+
+pub formed : (v : Via) → wellFormed v ≡ true → Formed v
+formed v w =
+    let e = both _ _ w in
+    let d = both _ _ (e .0) in
+    let c = both _ _ (d .0) in
+    let b = both _ _ (c .0) in
+    let a = both _ _ (b .0) in
+    record {
+      flags = ltb-true (v .ifr) 128 (a .0);
+      enables = ltb-true (v .ier) 128 (a .1);
+      acr = b .1;
+      pcr = c .1;
+      top = at-top (v .t1 .mark) (v .t1 .counter) (d .1);
+      levels = ltb-true (v .control) 16 (e .1);
+    }
+
+pub well : (v : Via) → Formed v → wellFormed v ≡ true
+well v h =
+    rw (
+      lt-ltb (v .ifr) 128 (h .flags),
+      lt-ltb (v .ier) 128 (h .enables),
+      h .acr,
+      h .pcr,
+      top-test (v .t1 .mark) (v .t1 .counter) (h .top),
+      lt-ltb (v .control) 16 (h .levels),
+    )
