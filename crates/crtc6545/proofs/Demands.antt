@@ -1,20 +1,20 @@
 -- The statements of specs/Demands.antt, proved.
 use mathlib.Core.Path.{_≡_, refl, sym, ap, _∙_}
 use mathlib.Core.Bool.{Bool, true, false}
-use Prim.Native.Nat.{ℕ, zero, suc, _≤_}
+use Prim.Native.Nat.{ℕ, zero, suc}
 use native.Mathlib.Omega.{arith}
 use borrow.Author.Tests.{le-ltb}
 use Rattle.clocks.specs.Clocks.{if_then_else_, after}
 use Rattle.clocks.proofs.Tests.{on-true, on-false}
 use Rattle.crtc6545.specs.Record.{wellFormed, powerUp, resetOf}
 use Rattle.crtc6545.specs.Clock.{clockOf}
-use Rattle.crtc6545.specs.Answers.{accepted, refused, firstRefusal, judged, readingOf}
+use Rattle.crtc6545.specs.Answers.{accepted, refused, firstRefusal, readingOf}
 use Rattle.crtc6545.specs.Demands
-use Rattle.crtc6545.specs.Demands.{Call, read, clock, run, Typed, refusalOf, givesOf, leavesOf, answerOf, Reached, at-power-up, by}
+use Rattle.crtc6545.specs.Demands.{Call, clock, run, Typed, refusalOf, givesOf, leavesOf, answerOf, at-power-up, by}
 use Rattle.crtc6545.specs.declared.Crtc.{Crtc}
 use Rattle.crtc6545.specs.declared.Answer.{Answer}
 use Rattle.crtc6545.proofs.Judged.{accepts, refuses}
-use Rattle.crtc6545.proofs.Formed.{Formed, formed, well}
+use Rattle.crtc6545.proofs.Formed.{formed, well}
 use Rattle.crtc6545.proofs.Keeps.{power-up-formed, leaves-kept, run-kept}
 
 pub read-answers : Demands.Read-answers

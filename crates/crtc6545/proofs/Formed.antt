@@ -1,7 +1,7 @@
 -- What the test of a well-formed record says, and the test from what it says.
 use mathlib.Core.Path.{_≡_}
-use mathlib.Core.Bool.{Bool, true, _&&_}
-use Prim.Native.Nat.{ℕ, _<_, _≤_}
+use mathlib.Core.Bool.{true}
+use Prim.Native.Nat.{_<_, _≤_}
 use borrow.Author.Tests.{lt-ltb, ltb-true, le-leb, leb-true}
 use Rattle.clocks.proofs.Tests.{both}
 use Rattle.crtc6545.specs.Record.{allowedR8, wellRegisters, wellLight, wellLine, wellFrame, wellFormed}

@@ -1,7 +1,7 @@
 -- Every part of a clock, and so every call, keeps a record well formed.
 use mathlib.Core.Path.{_≡_, refl}
 use mathlib.Core.Bool.{Bool, true, false, not, _&&_}
-use Prim.Native.Nat.{ℕ, zero, suc, _+_, _-_, _*_, _/_, _%_, _<_, _≤_}
+use Prim.Native.Nat.{ℕ, zero, suc, _+_, _/_, _%_, _<_, _≤_}
 use native.Mathlib.Nat.{le-refl}
 use native.Mathlib.Omega.{arith}
 use lib.Dec.{eqb, ltb, lit<, lit≤}
@@ -12,7 +12,7 @@ use Rattle.clocks.proofs.Tests.{picked}
 use Rattle.clocks.proofs.Clocks.{after-keeps}
 use Rattle.crtc6545.specs.Record.{allowedR8, wellFormed, wellRegisters, wellLight, wellLine, wellFrame, startOf, powerUp, resetOf}
 use Rattle.crtc6545.specs.Signals.{maOf}
-use Rattle.crtc6545.specs.Clock.{withRow, withScan, withAdjust, withVsync, strobed, fallen, endsLine, nextColumn, lineClocked, newFrame, adjustMoved, rowDone, rowEnded, frameMoved, vsyncWidth, vsyncStarted, lineEnded, frameClocked, clockOf}
+use Rattle.crtc6545.specs.Clock.{withRow, withScan, withAdjust, withVsync, strobed, fallen, endsLine, nextColumn, lineClocked, newFrame, adjustMoved, rowDone, rowEnded, frameMoved, vsyncWidth, vsyncStarted, lineEnded, clockOf}
 use Rattle.crtc6545.specs.Access.{stored, writeOf, refusedForm, readOf, pinned}
 use Rattle.crtc6545.specs.Demands.{Call, reset, read, write, pins, clock, run, Typed, refusalOf, leavesOf}
 use Rattle.crtc6545.specs.declared.Registers.{Registers}
@@ -20,7 +20,7 @@ use Rattle.crtc6545.specs.declared.Light.{Light}
 use Rattle.crtc6545.specs.declared.Line.{Line}
 use Rattle.crtc6545.specs.declared.Frame.{Frame}
 use Rattle.crtc6545.specs.declared.Crtc.{Crtc}
-use Rattle.crtc6545.proofs.Formed.{FormedRegisters, FormedLight, FormedLine, FormedFrame, Formed, formed, well}
+use Rattle.crtc6545.proofs.Formed.{FormedRegisters, FormedLight, FormedLine, FormedFrame, Formed}
 
 pub power-up-formed : wellFormed powerUp ≡ true
 unfolding wellFormed wellRegisters wellLight wellLine wellFrame powerUp bit

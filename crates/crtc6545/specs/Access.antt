@@ -1,12 +1,11 @@
 -- What a read gives and leaves, what a write and a new pen level leave, and which operands are refused.
-use mathlib.Core.Bool.{Bool, true, false, not, _&&_, _||_}
+use mathlib.Core.Bool.{Bool, not, _&&_, _||_}
 use Prim.Native.Nat.{ℕ, _+_, _%_}
 use lib.Dec.{eqb, ltb}
 use Rattle.clocks.specs.Clocks.{if_then_else_}
 use Rattle.crtc6545.specs.Record.{allowedR8}
 use Rattle.crtc6545.specs.Signals.{blankingOf}
 use Rattle.crtc6545.specs.declared.Registers.{Registers}
-use Rattle.crtc6545.specs.declared.Light.{Light}
 use Rattle.crtc6545.specs.declared.Crtc.{Crtc}
 
 -- ---- writes

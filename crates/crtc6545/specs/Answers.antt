@@ -1,5 +1,5 @@
 -- What a call gives back.
-use mathlib.Core.Bool.{Bool, true, false, _&&_}
+use mathlib.Core.Bool.{false, _&&_}
 use Prim.Native.Nat.{ℕ}
 use lib.Dec.{eqb, ltb}
 use Rattle.clocks.specs.Clocks.{if_then_else_}

@@ -103,7 +103,7 @@ endsLine r l = eqb (l .column) (r .r0)
 abbrev pub nextColumn : Registers → Line → ℕ
 nextColumn r l = if endsLine r l then 0 else (l .column + 1) % 256
 
--- HSYNC starts where the column comes to R2, for as many clocks as R3's low four bits say; 0 is no pulse
+-- HSYNC starts where the column comes to R2, for as many clocks as R3's low four bits say, so 0 makes none
 unfoldable pub lineClocked : Registers → Line → Line
 lineClocked r l =
     record {
@@ -150,7 +150,7 @@ frameMoved r f =
     if eqb (f .scan) (r .r9) then rowEnded r f else
     withScan ((f .scan + 1) % 32) f
 
--- R3's high four bits, 0 meaning 16
+-- how many lines a VSYNC takes: R3's high four bits, where 0 counts as 16
 abbrev pub vsyncWidth : Registers → ℕ
 vsyncWidth r = if eqb (r .r3 / 16) 0 then 16 else r .r3 / 16
 

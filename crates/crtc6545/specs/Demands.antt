@@ -1,7 +1,7 @@
 -- What the three demands ask of the 6545 beyond the promise of each entry. proofs/Demands.antt has a proof of each statement, under its name in small letters.
 -- Every promise is an equation, so any two results that it allows for one input coincide; there is no exception.
 use mathlib.Core.Path.{_≡_}
-use mathlib.Core.Bool.{Bool, true, false}
+use mathlib.Core.Bool.{true, false}
 use Prim.Native.Nat.{ℕ, _<_, _≤_}
 use Rattle.clocks.specs.Clocks.{after}
 use Rattle.crtc6545.specs.Record.{wellFormed, powerUp, resetOf}

@@ -1,5 +1,5 @@
 -- The record: which records are well formed, what power-up gives, and what a reset changes.
-use mathlib.Core.Bool.{Bool, true, false, not, _&&_, _||_}
+use mathlib.Core.Bool.{Bool, false, not, _&&_, _||_}
 use Prim.Native.Nat.{ℕ, _+_, _*_}
 use lib.Dec.{ltb, leb}
 use Rattle.clocks.specs.Bits.{bit}

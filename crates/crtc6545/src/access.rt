@@ -1,22 +1,10 @@
 // Reads and writes of the registers, and the pen's level.
 ghost use mathlib.Core.Path.{_≡_};
-ghost use Rattle.crtc6545.specs.Access.{readRefusal, refusedForm, writeRefusal, pinsRefusal, stored as storedOf, writeOf, statusOf, registerOf, dataOf, readOf, pinned as pinnedOf};
+ghost use Rattle.crtc6545.specs.Access.{writeRefusal, stored as storedOf, writeOf, statusOf, registerOf, dataOf, readOf, pinned as pinnedOf};
 use crate::Crtc;
 use crate::Registers;
 use crate::record::allowed_r8;
 use clocks::choose8;
-
-pub(crate) fn read_refusal(address: u8) -> u8
-    ensures { λ r. ⌜ r ≡ readRefusal address ⌝ }
-{
-    choose8(1 < address, 3, 0)
-}
-
-pub(crate) fn pins_refusal(pen: u8) -> u8
-    ensures { λ r. ⌜ r ≡ pinsRefusal pen ⌝ }
-{
-    choose8(1 < pen, 5, 0)
-}
 
 impl Registers {
     // A write of register k: bits beyond its width drop, and some registers take nothing.

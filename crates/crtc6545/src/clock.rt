@@ -2,7 +2,7 @@
 ghost use mathlib.Core.Path.{_≡_};
 ghost use Prim.Native.Nat.{_+_, _%_, _<_, _≤_};
 ghost use Rattle.clocks.specs.Clocks.{after};
-ghost use Rattle.crtc6545.specs.Clock.{strobed as strobedOf, keptOf, fallen as fallenOf, endsLine, lineClocked, newFrame, adjustMoved, rowEnded, frameMoved, vsyncWidth, vsyncStarted, lineEnded, frameClocked, clockOf, runRefusal};
+ghost use Rattle.crtc6545.specs.Clock.{strobed as strobedOf, keptOf, fallen as fallenOf, endsLine, lineClocked, newFrame, adjustMoved, rowEnded, frameMoved, vsyncWidth, vsyncStarted, lineEnded, frameClocked, clockOf};
 use crate::Crtc;
 use crate::Frame;
 use crate::Kept;
@@ -10,12 +10,6 @@ use crate::Light;
 use crate::Line;
 use crate::Registers;
 use clocks::choose8;
-
-pub(crate) fn run_refusal(n: u32) -> u8
-    ensures { λ r. ⌜ r ≡ runRefusal n ⌝ }
-{
-    choose8(Crtc::LONGEST_RUN < n, 6, 0)
-}
 
 // The count after x, in a count of `modulus` numbers.
 fn next(x: u8, modulus: u16) -> u8
@@ -66,7 +60,7 @@ impl Registers {
 }
 
 impl Line {
-    // Whether this clock ends the line: R0 is met exactly, so a column above a lowered R0 runs on to 255.
+    // Only R0 itself ends the line, so a column above a lowered R0 runs on to 255.
     fn ends(self, registers: Registers) -> bool
         ensures { λ r. ⌜ r ≡ endsLine registers self ⌝ }
     {
@@ -183,9 +177,11 @@ impl Crtc {
         let light = self.light;
         let line = self.line;
         let frame = self.frame;
+        // Every step reads the record as it stood before the clock.
+        let moved = line.clocked(registers);
         self.light = light.strobed(registers.ma(line, frame));
         self.kept = registers.kept(line, frame);
-        self.line = line.clocked(registers);
+        self.line = moved;
         self.frame = frame.clocked(registers, line);
         self
     }

@@ -2,10 +2,11 @@
 ghost use mathlib.Core.Path.{_≡_};
 ghost use Rattle.clocks.specs.Clocks.{after};
 ghost use Rattle.crtc6545.specs.Record.{powerUp, resetOf};
-ghost use Rattle.crtc6545.specs.Access.{readRefusal, dataOf, readOf, writeRefusal, writeOf, pinsRefusal, pinsOf};
+ghost use Rattle.crtc6545.specs.Access.{writeRefusal, writeOf, pinsRefusal, pinsOf};
 ghost use Rattle.crtc6545.specs.Clock.{runRefusal, clockOf};
 ghost use Rattle.crtc6545.specs.Answers.{accepted as acceptedOf, refused as refusedOf, judged, readingOf};
 use clocks::bit;
+use clocks::choose8;
 
 mod access;
 mod clock;
@@ -206,7 +207,7 @@ impl Crtc {
     pub fn read(self, address: u8) -> Reading
         ensures { λ r. ⌜ r ≡ readingOf address self ⌝ }
     {
-        let number = self.refusal(access::read_refusal(address));
+        let number = self.refusal(choose8(1 < address, 3, 0));
         if number == 0 {
             let data = self.data(address);
             let next = self.after_read(address);
@@ -237,7 +238,7 @@ impl Crtc {
     pub fn pins(self, pen: u8) -> Answer
         ensures { λ r. ⌜ r ≡ judged (pinsRefusal pen) self 0 (pinsOf pen self) ⌝ }
     {
-        let number = self.refusal(access::pins_refusal(pen));
+        let number = self.refusal(choose8(1 < pen, 5, 0));
         if number == 0 {
             let next = self.pinned(pen == 1);
             next.accepted(0)
@@ -261,7 +262,7 @@ impl Crtc {
     pub fn run(self, n: u32) -> Answer
         ensures { λ r. ⌜ r ≡ judged (runRefusal n) self 0 (after n clockOf self) ⌝ }
     {
-        let number = self.refusal(clock::run_refusal(n));
+        let number = self.refusal(choose8(Crtc::LONGEST_RUN < n, 6, 0));
         if number == 0 {
             let next = self.ran(n);
             next.accepted(0)

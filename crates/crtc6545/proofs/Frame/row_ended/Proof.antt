@@ -18,4 +18,7 @@ unfolding rowEnded
 returns-3 c = rw (ne-eqb _ _ (c .before .if1 .left), c .next .ensures)
 
 pub row-ended-spec : {M : Type 1} → statement M
-row-ended-spec = tie.close (tie.spec (λ c. search needs) (λ c. search needs) (λ c. search needs) (λ c. search needs) (λ c κs. search needs) returns returns-2 (λ c κs. search needs) returns-3)
+row-ended-spec =
+    tie.close
+    (tie.spec (λ c. search needs) (λ c. search needs) (λ c. search needs) (λ c. search needs) (λ c κs. search needs) returns
+    returns-2 (λ c κs. search needs) returns-3)

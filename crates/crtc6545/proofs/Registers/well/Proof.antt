@@ -11,7 +11,8 @@ use Rattle.crtc6545.proofs.Registers.well.Tie as tie
 
 returns : tie.Need-returns
 unfolding wellRegisters
-returns c = let s = c .before .before .before .before .before .before .before .before .before .before .before in
+returns c =
+    let s = c .before .before .before .before .before .before .before .before .before .before .before in
     let byte : (x : ℕ) → x < 256 → ltb x 256 ≡ true = λ x h. lt-ltb x 256 h in
     let r = s .args .self in
     rw (
