@@ -104,26 +104,7 @@ impl Crtc {
         ensures { λ r. ⌜ r ≡ powerUp ⌝ }
     {
         Crtc {
-            registers: Registers {
-                r0: 0,
-                r1: 0,
-                r2: 0,
-                r3: 0,
-                r4: 0,
-                r5: 0,
-                r6: 0,
-                r7: 0,
-                r8: 0,
-                r9: 0,
-                r10: 0,
-                r11: 0,
-                r12: 0,
-                r13: 0,
-                r14: 0,
-                r15: 0,
-                r18: 0,
-                r19: 0,
-            },
+            registers: Registers::cleared(),
             address: 0,
             light: Light {
                 r16: 0,
@@ -140,16 +121,7 @@ impl Crtc {
                 column: 0,
                 hsync: 0,
             },
-            frame: Frame {
-                row: 0,
-                scan: 0,
-                adjusting: false,
-                adjust: 0,
-                row_start: 0,
-                frame_start: 0,
-                vsync: 0,
-                field: 0,
-            },
+            frame: Frame::first(0),
         }
     }
 

@@ -1,7 +1,7 @@
 // Which records are well formed, and what a reset leaves.
 ghost use mathlib.Core.Path.{_≡_};
 ghost use Prim.Native.Nat.{_+_, _*_};
-ghost use Rattle.crtc6545.specs.Record.{allowedR8, startOf, wellRegisters, wellLight, wellLine, wellFrame, wellFormed, resetOf};
+ghost use Rattle.crtc6545.specs.Record.{allowedR8, startOf, noRegisters, wellRegisters, wellLight, wellLine, wellFrame, wellFormed, firstFrame, resetOf};
 ghost use Rattle.crtc6545.specs.Answers.{firstRefusal};
 use crate::Crtc;
 use crate::Frame;
@@ -18,6 +18,31 @@ pub(crate) fn allowed_r8(x: u8) -> bool
 }
 
 impl Registers {
+    pub(crate) fn cleared() -> Registers
+        ensures { λ r. ⌜ r ≡ noRegisters ⌝ }
+    {
+        Registers {
+            r0: 0,
+            r1: 0,
+            r2: 0,
+            r3: 0,
+            r4: 0,
+            r5: 0,
+            r6: 0,
+            r7: 0,
+            r8: 0,
+            r9: 0,
+            r10: 0,
+            r11: 0,
+            r12: 0,
+            r13: 0,
+            r14: 0,
+            r15: 0,
+            r18: 0,
+            r19: 0,
+        }
+    }
+
     // Where a frame starts.
     pub(crate) fn start(self) -> u16
         ensures { λ r. ⌜ r ≡ startOf self ⌝ }
@@ -59,6 +84,22 @@ impl Line {
 }
 
 impl Frame {
+    // The first line of a frame at `start`, no VSYNC running.
+    pub(crate) fn first(start: u16) -> Frame
+        ensures { λ r. ⌜ r ≡ firstFrame start ⌝ }
+    {
+        Frame {
+            row: 0,
+            scan: 0,
+            adjusting: false,
+            adjust: 0,
+            row_start: start,
+            frame_start: start,
+            vsync: 0,
+            field: 0,
+        }
+    }
+
     fn well(self) -> bool
         ensures { λ r. ⌜ r ≡ wellFrame self ⌝ }
     {
@@ -94,7 +135,6 @@ impl Crtc {
         ensures { λ r. ⌜ r ≡ resetOf self ⌝ }
     {
         let registers = self.registers;
-        let start = registers.start();
         let kept = Kept {
             de: false,
             cursor: false,
@@ -103,16 +143,7 @@ impl Crtc {
             column: 0,
             hsync: 0,
         };
-        let frame = Frame {
-            row: 0,
-            scan: 0,
-            adjusting: false,
-            adjust: 0,
-            row_start: start,
-            frame_start: start,
-            vsync: 0,
-            field: 0,
-        };
+        let frame = Frame::first(registers.start());
         self.light.waiting = false;
         self.kept = kept;
         self.line = line;
