@@ -21,15 +21,15 @@ maOf r l f =
 unfoldable pub raOf : Frame → ℕ
 raOf f = if f .adjusting then f .adjust else f .scan
 
--- blanking: below the R6 rows that are shown, and in adjust
+-- blanking: from row R6 on, and in adjust
 unfoldable pub blankingOf : Registers → Frame → Bool
 blankingOf r f = leb (r .r6) (f .row) || f .adjusting
 
--- DE, unskewed: not blanking, and within the R1 columns that are shown
+-- DE, unskewed: no blanking, and one of the first R1 columns
 unfoldable pub deOf : Registers → Line → Frame → Bool
 deOf r l f = not (blankingOf r f) && ltb (l .column) (r .r1)
 
--- the cursor's mode, R10 bits 6..5: always, never, 8 of 16 fields, 16 of 32 fields
+-- the cursor's mode, R10 bits 6..5: always, never, the first 8 of every 16 fields, the first 16 of 32
 unfoldable pub blinkOf : Registers → ℕ → Bool
 blinkOf r field =
     if eqb (r .r10 / 32 % 4) 0 then true else
