@@ -1,0 +1,30 @@
+-- The line that a reply is, and what a buffer holds after it was put there.
+use Prim.Native.Nat.{ℕ, _+_, _/_, _%_, _<_, _≤_}
+use mathlib.Core.Path.{_≡_}
+use mathlib.Core.List.{List, [], _∷_, _++_}
+use lib.ListN.{length, take, drop}
+use Rattle.frames.specs.Hex.{hexOf}
+use Rattle.frames.specs.declared.Reply.{Reply}
+use Rattle.frames.specs.declared.Reply.the-variants.{Refused, Done, Data, Ahead}
+
+-- four bytes of a number, the highest first
+abbrev pub wordOf : ℕ → List ℕ
+wordOf n = hexOf (n / 16777216 % 256) ++ hexOf (n / 65536 % 256) ++ hexOf (n / 256 % 256) ++ hexOf (n % 256)
+
+-- a refusal is its number alone; all else is 00, the line byte, and what was read or forecast; each line ends in LF
+unfoldable pub render : Reply → List ℕ
+render (Refused n) = hexOf n ++ 10 ∷ []
+render (Done l) = hexOf 0 ++ hexOf l ++ 10 ∷ []
+render (Data l b) = hexOf 0 ++ hexOf l ++ hexOf b ++ 10 ∷ []
+render (Ahead l n) = hexOf 0 ++ hexOf l ++ wordOf n ++ 10 ∷ []
+
+-- x stands after the first `at` bytes of a buffer, r is the place after it, and what lies beyond is untouched
+pub record Appended (before now : List ℕ) (at r : ℕ) (x : List ℕ) : Type 0 where
+  pub place : r ≡ at + length x
+  pub text : take r now ≡ take at before ++ x
+  pub rest : drop r now ≡ drop r before
+
+-- x is put where 13 bytes are free after the first `at`, which every reply fits; else nothing is
+pub record Put (before now : List ℕ) (at r : ℕ) (x : List ℕ) : Type 0 where
+  pub fits : at + 13 ≤ length before → Appended before now at r x
+  pub full : length before < at + 13 → (now ≡ before) × (r ≡ at)
