@@ -1,14 +1,14 @@
 -- What a forecast says of every number of clocks settles it.
 use mathlib.Core.Path.{_≡_, refl, sym, ap, _∙_}
 use mathlib.Core.Bool.{Bool, true, false, _||_, _&&_, or-true, or-false, and-true, and-false, true≢false, false≢true}
-use Prim.Native.Nat.{ℕ, _+_, _-_, _<_, _≤_}
+use Prim.Native.Nat.{ℕ, zero, suc, _+_, _<_, _≤_}
 use native.Mathlib.Nat.{le-refl}
 use native.Mathlib.Decide.{decLt, decLe}
 use native.Mathlib.Omega.{arith}
 use lib.Dec.{leb, leb·zero}
 use borrow.Author.Tests.{le-leb, lt-leb, leb-true}
 use Rattle.clocks.specs.Clocks.{if_then_else_}
-use Rattle.clocks.specs.Forecasts.{comes, soonerOf}
+use Rattle.clocks.specs.Forecasts.{comes, soonerOf, firstFrom}
 use Rattle.clocks.specs.declared.Forecast.{Forecast}
 use Rattle.clocks.specs.declared.Forecast.the-variants.{Never, In}
 use Rattle.clocks.proofs.Tests.{picked}
@@ -73,3 +73,22 @@ most-gated n y f a = picked (AtMost n) y a tt
 pub most-in : (n d : ℕ) (f : Forecast) → AtMost n f → f ≡ In d → d ≤ n
 most-in n d Never a e = let z : _≡_ {A = ℕ} 0 1 = cc in absurd (omega arith)
 most-in n d (In x) a e = let z : x ≡ d = cc in omega arith
+
+-- what is forecast, and at most m, is what looking ahead finds
+first-never : (n k : ℕ) (p : ℕ → Bool) → ((j : ℕ) → p j ≡ false) → firstFrom n k p ≡ Never
+unfolding firstFrom
+first-never zero k p e = refl
+first-never (suc n) k p e = rw (e k) (first-never n (suc k) p e)
+
+first-in : (n k d : ℕ) (p : ℕ → Bool) → ((j : ℕ) → p j ≡ leb d j) → k ≤ d → d < n + k → firstFrom n k p ≡ In d
+unfolding firstFrom
+first-in zero k d p e h l = absurd (omega arith)
+first-in (suc n) k d p e h l = go (decLt k d) (λ g. first-in n (suc k) d p e g (omega arith))
+  where
+    go : Dec (k < d) → (k < d → firstFrom n (suc k) p ≡ In d) → (if p k then In k else firstFrom n (suc k) p) ≡ In d
+    go (yes g) below = rw (e k, lt-leb d k g) (below g)
+    go (no g) below = rw (e k, le-leb d k (omega arith)) (ap In (omega arith))
+
+pub first-is : (m : ℕ) (p : ℕ → Bool) (f : Forecast) → ((j : ℕ) → p j ≡ comes f j) → AtMost m f → firstFrom (suc m) 0 p ≡ f
+first-is m p Never e a = first-never (suc m) 0 p e
+first-is m p (In d) e a = first-in (suc m) 0 d p e (omega arith) (omega arith)

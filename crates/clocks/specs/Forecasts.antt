@@ -1,6 +1,6 @@
 -- When a thing comes to stand: after a number of clocks, or never.
 use mathlib.Core.Bool.{Bool, true, false}
-use Prim.Native.Nat.{ℕ}
+use Prim.Native.Nat.{ℕ, zero, suc}
 use lib.Dec.{leb}
 use Rattle.clocks.specs.Clocks.{if_then_else_}
 use Rattle.clocks.specs.declared.Forecast.{Forecast}
@@ -21,3 +21,8 @@ abbrev pub soonerOf : Forecast → Forecast → Forecast
 soonerOf Never b = b
 soonerOf (In x) Never = In x
 soonerOf (In x) (In y) = if leb x y then In x else In y
+
+-- looking ahead: the first of the n numbers from k on at which the test holds, and never where there is none
+unfoldable pub firstFrom : ℕ → ℕ → (ℕ → Bool) → Forecast
+firstFrom zero k p = Never
+firstFrom (suc n) k p = if p k then In k else firstFrom n (suc k) p

@@ -2,14 +2,14 @@
 use mathlib.Core.Path.{_≡_, refl, sym, ap, ap₂, _∙_}
 use mathlib.Core.Bool.{Bool, true, false, not, _&&_, _||_, or-true}
 use mathlib.Core.Logic.{_⊎_, _↔_, inl, inr, ⊎-elim}
-use Prim.Native.Nat.{ℕ, zero, suc, _+_, _-_, _*_, _<_, _≤_}
+use Prim.Native.Nat.{ℕ, zero, suc, _+_, _-_, _*_, _<_, _≤_, zero-le}
 use native.Mathlib.Omega.{arith}
 use Rattle.clocks.specs.Clocks.{if_then_else_, after}
 use Rattle.clocks.specs.Forecasts.{comes}
 use Rattle.clocks.specs.declared.Forecast.{Forecast}
 use Rattle.clocks.specs.declared.Forecast.the-variants.{Never, In}
-use Rattle.clocks.proofs.Tests.{both, either}
-use Rattle.clocks.proofs.Forecasts.{comes-one, comes-at, comes-not-before}
+use Rattle.clocks.proofs.Tests.{both, either, picked}
+use Rattle.clocks.proofs.Forecasts.{comes-one, comes-at, comes-not-before, AtMost, most-gated, most-in}
 use Rattle.clocks.proofs.Bits.{bit-merge}
 use Rattle.riot6532.specs.Record.{wellFormed, powerUp, resetOf}
 use Rattle.riot6532.specs.Ports.{irqOf}
@@ -18,11 +18,11 @@ use Rattle.riot6532.specs.Answers.{accepted, refused, judged, Foretold}
 use Rattle.riot6532.specs.Closed.{countsOf, forecastOf}
 use Rattle.riot6532.specs.Demands
 use Rattle.riot6532.specs.Demands.{Call, reset, read, write, pins, clock, run, forecast, givesOf, leavesOf, answerOf, Reached}
-use Rattle.riot6532.specs.declared.Timer.{Timer}
 use Rattle.riot6532.specs.declared.Io.{Io}
 use Rattle.riot6532.specs.declared.Riot.{Riot}
 use Rattle.riot6532.specs.declared.Answer.{Answer}
 use Rattle.riot6532.specs.declared.Outlook.{Outlook}
+use Rattle.riot6532.proofs.Formed.{formed, product}
 use Rattle.riot6532.proofs.Judged.{accepts, refuses}
 use Rattle.riot6532.proofs.Lines.{line-after}
 use Rattle.riot6532.proofs.Kept.{Sound, counts-most, run-well, well-kept, reached-sound}
@@ -91,20 +91,27 @@ forecast-never v r reached f =
     let w = reached-well v reached in
     (λ e j. said v r w f Never e j, λ h. comes-one (r .forecast) Never (λ k. sym (f .told w k) ∙ h k))
 
+-- the forecast is at most one more than the counts that its timer can stand above zero
+most-counts : (n : ℕ) (v : Riot) (r : Outlook) → wellFormed v ≡ true → Foretold v r → countsOf (v .io .timer) < n → AtMost n (r .forecast)
+most-counts n v r w f h =
+    rw (closed v r w f)
+    (picked (AtMost n) (irqOf (v .io)) zero-le
+    (most-gated n (v .io .timer .enable && not (v .io .timer .expired)) (In (countsOf (v .io .timer) + 1)) (omega arith)))
+
+-- no record in its ranges has the line come later than after 262,144 clocks
+pub forecast-most : (v : Riot) (r : Outlook) → v .io .timer .value < 256 → wellFormed v ≡ true → Foretold v r → AtMost 262144 (r .forecast)
+forecast-most v r b w f =
+    let t = v .io .timer in
+    let h = formed t w in
+    let m = h .most in
+    let u = h .high in
+    let p = product (t .divider) (t .value) m b in
+    most-counts 262144 v r w f (picked (λ (k : ℕ). k < 262144) (t .expired) (omega arith) (omega arith))
+
 pub forecast-bound : Demands.Forecast-bound
 forecast-bound v r d reached f e =
-    small (irqOf (v .io)) (t .enable && not (t .expired)) (sym (closed v r w f) ∙ e)
-  where
-    w : wellFormed v ≡ true
-    w = reached-well v reached
-
-    t : Timer
-    t = v .io .timer
-
-    small : (i a : Bool) → (if i then In 0 else if a then In (countsOf t + 1) else Never) ≡ In d → d ≤ 261121
-    small true a q = let z : d ≡ 0 = cc in omega arith
-    small false true q = let z : d ≡ countsOf t + 1 = cc in omega (arith, counts-most t (reached-sound v reached))
-    small false false q = let z : _≡_ {A = ℕ} 0 1 = cc in absurd (omega arith)
+    most-in 261121 d (r .forecast)
+    (most-counts 261121 v r (reached-well v reached) f (counts-most (v .io .timer) (reached-sound v reached))) e
 
 -- a refused clock leaves the record, an accepted one clocks it
 clock-call : Riot → Riot

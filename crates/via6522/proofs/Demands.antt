@@ -29,7 +29,7 @@ use Rattle.via6522.specs.declared.Answer.{Answer}
 use Rattle.via6522.specs.declared.Outlook.{Outlook}
 use Rattle.via6522.proofs.Formed.{Formed, well}
 use Rattle.via6522.proofs.Lines.{line-after}
-use Rattle.via6522.proofs.Kept.{leaves-formed, answers, accepts, refuses, run-formed, well-kept, reached-formed, reached-ranged}
+use Rattle.via6522.proofs.Kept.{leaves-formed, answers, accepts, refuses, run-formed, well-kept, reached-formed, Ranged, reached-ranged}
 
 -- an ill-formed record meets refusal 1, whatever the call
 meets-ill : (c : Call) (v : Via) → wellFormed v ≡ false → meets c v ≡ 1
@@ -113,25 +113,11 @@ forecast-never v r reached f =
     let w = reached-well v reached in
     (λ e j. said v r w f Never e j, λ h. comes-one (r .forecast) Never (λ k. sym (f .told w k) ∙ h k))
 
-pub forecast-bound : Demands.Forecast-bound
+-- no record in its ranges has the line come later than after 65,537 clocks
+pub forecast-most : (v : Via) (r : Outlook) → Ranged v → wellFormed v ≡ true → Foretold v r → AtMost 65537 (r .forecast)
 unfolding soonest timersOf
-forecast-bound v r d reached f e =
-    most-in 65537 d (soonest v (First.dueOf (timersOf v .t1)) (Second.dueOf (timersOf v .t2))) most
-    (sym (closed v r (reached-well v reached) f) ∙ e)
+forecast-most v r h w f = rw (closed v r w f) most
   where
-    due1 : AtMost 65537 (First.dueOf (timersOf v .t1))
-    due1 =
-        let a = reached-ranged v reached .latch in
-        let b = reached-ranged v reached .counter in
-        picked (AtMost 65537) (timersOf v .t1 .flag) (omega arith)
-        (most-gated 65537 (timersOf v .t1 .free || timersOf v .t1 .armed) (In (topOf (timersOf v .t1) + 1)) (picked (λ (k : ℕ). k + 1 ≤ 65537) (v .t1 .mark) (omega arith) (omega arith)))
-
-    due2 : AtMost 65537 (Second.dueOf (timersOf v .t2))
-    due2 =
-        let b = reached-ranged v reached .counter2 in
-        picked (AtMost 65537) (timersOf v .t2 .flag) (omega arith)
-        (most-gated 65537 (timersOf v .t2 .armed && not (timersOf v .t2 .pulse)) (In (v .t2 .counter + 1)) (omega arith))
-
     first : Forecast
     first = if bit 6 (v .ier) then First.dueOf (timersOf v .t1) else Never
 
@@ -141,11 +127,29 @@ forecast-bound v r d reached f e =
     now : Forecast
     now = if stands v then In 0 else Never
 
+    due1 : AtMost 65537 (First.dueOf (timersOf v .t1))
+    due1 =
+        let a = h .latch in
+        let b = h .counter in
+        picked (AtMost 65537) (timersOf v .t1 .flag) (omega arith)
+        (most-gated 65537 (timersOf v .t1 .free || timersOf v .t1 .armed) (In (topOf (timersOf v .t1) + 1))
+        (picked (λ (k : ℕ). k + 1 ≤ 65537) (v .t1 .mark) (omega arith) (omega arith)))
+
+    due2 : AtMost 65537 (Second.dueOf (timersOf v .t2))
+    due2 =
+        let b = h .counter2 in
+        picked (AtMost 65537) (timersOf v .t2 .flag) (omega arith)
+        (most-gated 65537 (timersOf v .t2 .armed && not (timersOf v .t2 .pulse)) (In (v .t2 .counter + 1)) (omega arith))
+
     most : AtMost 65537 (soonest v (First.dueOf (timersOf v .t1)) (Second.dueOf (timersOf v .t2)))
     most =
         most-sooner 65537 first (soonerOf second now) (most-gated 65537 (bit 6 (v .ier)) (First.dueOf (timersOf v .t1)) due1)
         (most-sooner 65537 second now (most-gated 65537 (bit 5 (v .ier)) (Second.dueOf (timersOf v .t2)) due2)
         (most-gated 65537 (stands v) (In 0) (omega arith)))
+
+pub forecast-bound : Demands.Forecast-bound
+forecast-bound v r d reached f e =
+    most-in 65537 d (r .forecast) (forecast-most v r (reached-ranged v reached) (reached-well v reached) f) e
 
 -- a refused clock leaves the record, an accepted one clocks it
 clock-call : Via → Via

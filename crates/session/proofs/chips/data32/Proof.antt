@@ -1,0 +1,6 @@
+use borrow.Author.Needs.{needs}
+use Rattle.session.proofs.chips.data32.Statement.{statement}
+use Rattle.session.proofs.chips.data32.Tie as tie
+
+pub data32-spec : {M : Type 1} → statement M
+data32-spec = tie.close (tie.spec (λ c κs. search needs) (λ c κs. search needs) (λ c. cc))
