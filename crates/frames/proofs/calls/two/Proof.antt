@@ -1,0 +1,30 @@
+use borrow.Author.Needs.{needs}
+use borrow.Author.Tests.{ne-eqb, le-ltb}
+use lib.Dec.{lit<}
+use mathlib.Core.Path.{_∙_}
+use Rattle.frames.proofs.Texts.{either-same}
+use Rattle.frames.proofs.Lines.{as-bytes, no-more, byte, no-frame, no-bytes, and-no}
+use Rattle.frames.proofs.calls.two.Statement.{statement}
+use Rattle.frames.proofs.calls.two.Tie as tie
+
+returns : tie.Need-returns
+returns c = no-bytes _ (simp (le-ltb _ 256 (c .if1 .taken), and-no))
+
+returns-2 : tie.Need-returns-2
+returns-2 c = no-bytes _ (simp (le-ltb _ 256 (c .if2 .taken), and-no))
+
+returns-3 : tie.Need-returns-3
+returns-3 c = let b = c .before .before in
+    c .write .ensures
+    ∙ rw (c .before .match .keys1) (as-bytes _ 2 (lit< tt) (byte (b .before .if1 .left) (byte (b .if2 .left) no-more)))
+
+returns-4 : tie.Need-returns-4
+returns-4 c = let b = c .before .before in
+    c .pins32 .ensures
+    ∙ rw (c .before .match .keys2) (as-bytes _ 4 (lit< tt) (byte (b .before .if1 .left) (byte (b .if2 .left) no-more)))
+
+returns-5 : tie.Need-returns-5
+returns-5 c = let r = c .match .rest in no-frame _ (simp (ne-eqb _ 2 (r .0 .1), ne-eqb _ 4 (r .1), either-same))
+
+pub two-spec : {M : Type 1} → statement M
+two-spec = tie.close (tie.spec returns returns-2 (λ c. search needs) (λ c. search needs) (λ c κs. search needs) (λ c. search needs) (λ c. search needs) (λ c κs. search needs) returns-3 returns-4 returns-5)
