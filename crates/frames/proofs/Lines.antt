@@ -40,7 +40,7 @@ are-bytes : {s : List ℕ} → Bytes s → areBytes s ≡ true
 are-bytes no-more = refl
 are-bytes (byte {b} {s} h r) = rw (lt-ltb b 256 (suc-le-suc h), are-bytes r)
 
--- what is no chip is no byte that a frame begins with, so that only the bytes after it are checked
+-- a first pair that is no byte is no chip either, so that only operands are left to check
 pub as-bytes : (chip op : ℕ) {s : List ℕ} → op < 256 → Bytes s → ofBytes (chip ∷ op ∷ s) ≡ checked (chip ∷ op ∷ s)
 unfolding checked
 as-bytes chip op {s} h r = go (decLt chip 256)

@@ -50,7 +50,7 @@ fn write(chip: u16, address: u8, value: u8) -> Frame
     }
 }
 
-// The pins of a chip are one byte, two or three, and those of no other chip are as many.
+// Pins: one byte for the 6545, two for the 6532, three for the 6522.
 fn pins45(chip: u16, pen: u8) -> Frame
     ensures { λ r. ⌜ r ≡ ofBytes (chip ∷ 4 ∷ pen ∷ []) ⌝ }
 {
