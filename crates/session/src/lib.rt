@@ -1,6 +1,8 @@
 // A session on the bench of three chips: lines in, replies out, whole files in pieces of any size.
 ghost use mathlib.Core.Path.{_≡_};
+ghost use Rattle.frames.specs.Frames.{frameOf};
 ghost use Rattle.session.specs.Steps.{powerUp, stepOf};
+ghost use Rattle.session.specs.Pieces.{Feeds};
 use crtc6545::Crtc;
 use frames::Frame;
 use frames::Reply;
@@ -35,6 +37,13 @@ struct After45 {
 pub struct Stepped {
     pub bench: Bench,
     pub reply: Reply,
+}
+
+// What a piece of a file leaves of the bench, how many bytes of it were used, and how many were written.
+pub struct Fed {
+    pub bench: Bench,
+    pub used: usize,
+    pub made: usize,
 }
 
 impl Bench {
@@ -78,6 +87,45 @@ impl Bench {
                 self.crtc = crtc;
                 Stepped { bench: self, reply }
             }
+        }
+    }
+
+    // One line without its LF, of any length and content.
+    pub fn line(self, line: &[u8]) -> Stepped
+        ensures { λ r. ⌜ r ≡ stepOf self (frameOf (now (line .entry))) ⌝ }
+    {
+        self.step(frames::decode(line))
+    }
+
+    // As many whole lines as there is room for the answers of, 13 bytes each.
+    pub fn feed(self, input: &[u8], out: &mut [u8]) -> Fed
+        ensures { λ r. ⌜ Feeds self (now (input .entry)) (now (out .entry)) (now (out .exit)) r ⌝ }
+    {
+        let mut now = self;
+        let mut at: usize = 0;
+        let mut made: usize = 0;
+        let mut i: usize = 0;
+        while i < input.len() {
+            if input[i] == 10 {
+                if out.len() - made < 13 {
+                    return Fed {
+                        bench: now,
+                        used: at,
+                        made,
+                    };
+                }
+                let r = now.line(&input[at..i]);
+                let reply = r.reply;
+                made = frames::put(out, made, reply);
+                now = r.bench;
+                at = i + 1;
+            }
+            i += 1;
+        }
+        Fed {
+            bench: now,
+            used: at,
+            made,
         }
     }
 }

@@ -1,0 +1,82 @@
+-- A file that comes in pieces, through buffers of any size.
+use Prim.Native.Nat.{ℕ, _+_, _-_, _<_, _≤_, min}
+use mathlib.Core.Path.{_≡_}
+use mathlib.Core.Logic.{_⊎_}
+use mathlib.Core.Bool.{Bool, true, false}
+use mathlib.Core.List.{List, [], _∷_, _++_}
+use lib.Dec.{leb}
+use lib.ListN.{length, take, drop}
+use Rattle.clocks.specs.Clocks.{if_then_else_}
+use Rattle.session.specs.Steps.{powerUp}
+use Rattle.session.specs.Sessions.{ended, open-line, last-line, nextOf, saysOf, nextAll, saysAll}
+use Rattle.session.specs.declared.Bench.{Bench}
+use Rattle.session.specs.declared.Fed.{Fed}
+
+-- what some lines come to: the bench after them, the bytes that they are, and what is written for them
+pub record Taken : Type 0 where
+  pub bench : Bench
+  pub used : ℕ
+  pub text : List ℕ
+
+-- a line before others: its bytes and its LF, its answer before theirs
+abbrev pub before : List ℕ → List ℕ → Taken → Taken
+before l x t = record { bench = t .bench; used = length l + 1 + t .used; text = x ++ t .text }
+
+-- as many lines as there is room for: one is taken where 13 bytes are free, which every answer fits
+abbrev pub takes : ℕ → Bench → List (List ℕ) → Taken
+takes room b [] = record { bench = b; used = 0; text = [] }
+takes room b (l ∷ ls) =
+    if leb 13 room
+    then before l (saysOf b l) (takes (room - length (saysOf b l)) (nextOf b l) ls)
+    else record { bench = b; used = 0; text = [] }
+
+-- an output buffer after a text was put at its front: that text, and beyond it what was there
+pub record Written (before now : List ℕ) (made : ℕ) (x : List ℕ) : Type 0 where
+  pub size : made ≡ length x
+  pub text : take made now ≡ x
+  pub rest : drop made now ≡ drop made before
+
+-- what `feed` gives for a bench, an input and an output buffer
+pub record Feeds (b : Bench) (s before now : List ℕ) (r : Fed) : Type 0 where
+  pub bench : r .bench ≡ takes (length before) b (ended [] s) .bench
+  pub used : r .used ≡ takes (length before) b (ended [] s) .used
+  pub out : Written before now (r .made) (takes (length before) b (ended [] s) .text)
+
+-- what `finish` writes for what has come of a last line: its answer where 13 bytes are free, and nothing for an empty one
+pub record Finishes (b : Bench) (s before now : List ℕ) (made : ℕ) : Type 0 where
+  pub answered : 13 ≤ length before → Written before now made (saysAll b (last-line s))
+  pub full : length before < 13 → (now ≡ before) × (made ≡ 0)
+
+-- what `keep` leaves of a buffer whose bytes from `used` up to n are an open line: at most 33 of them, at its front
+pub record Keeps (before now : List ℕ) (used n kept : ℕ) : Type 0 where
+  pub moved :
+      used ≤ n → n ≤ length before
+      → (kept ≡ min 33 (n - used)) × (take kept now ≡ take 33 (drop used (take n before))) × (drop kept now ≡ drop kept before)
+  pub refused : (n < used) ⊎ (length before < n) → (now ≡ before) × (kept ≡ 0)
+
+-- ---- a file cut into pieces
+
+-- between two pieces: the bench, and of the line that no LF has ended yet at most 33 bytes
+pub record Held : Type 0 where
+  pub bench : Bench
+  pub kept : List ℕ
+
+abbrev pub at-start : Held
+at-start = record { bench = powerUp; kept = [] }
+
+-- what is held after a piece, and what is written for it
+abbrev pub held : Held → List ℕ → Held
+held h piece =
+    record { bench = nextAll (h .bench) (ended [] (h .kept ++ piece)); kept = take 33 (open-line [] (h .kept ++ piece)) }
+
+abbrev pub wrote : Held → List ℕ → List ℕ
+wrote h piece = saysAll (h .bench) (ended [] (h .kept ++ piece))
+
+-- all that is written for a file that comes in these pieces
+abbrev pub written-for : Held → List (List ℕ) → List ℕ
+written-for h [] = saysAll (h .bench) (last-line (h .kept))
+written-for h (piece ∷ pieces) = wrote h piece ++ written-for (held h piece) pieces
+
+abbrev pub joined : List (List ℕ) → List ℕ
+joined [] = []
+joined (piece ∷ pieces) = piece ++ joined pieces
