@@ -1,2 +1,3 @@
 pub mod Aheads
 pub mod Feeding
+pub mod Keeping

@@ -47,6 +47,11 @@ pub record Finishes (b : Bench) (s before now : List ℕ) (made : ℕ) : Type 0 
   pub answered : 13 ≤ length before → Written before now made (saysAll b (last-line s))
   pub full : length before < 13 → (now ≡ before) × (made ≡ 0)
 
+-- a buffer whose first m bytes are those that stood from `from` on, the rest untouched
+pub record Moved (before now : List ℕ) (from m : ℕ) : Type 0 where
+  pub front : take m now ≡ take m (drop from before)
+  pub rest : drop m now ≡ drop m before
+
 -- what `keep` leaves of a buffer whose bytes from `used` up to n are an open line: at most 33 of them, at its front
 pub record Keeps (before now : List ℕ) (used n kept : ℕ) : Type 0 where
   pub moved :

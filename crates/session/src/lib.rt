@@ -1,8 +1,10 @@
 // A session on the bench of three chips: lines in, replies out, whole files in pieces of any size.
 ghost use mathlib.Core.Path.{_≡_};
+ghost use Prim.Native.Nat.{_+_, _≤_};
+ghost use lib.ListN.{length};
 ghost use Rattle.frames.specs.Frames.{frameOf};
 ghost use Rattle.session.specs.Steps.{powerUp, stepOf};
-ghost use Rattle.session.specs.Pieces.{Feeds};
+ghost use Rattle.session.specs.Pieces.{Feeds, Finishes, Moved, Keeps};
 use crtc6545::Crtc;
 use frames::Frame;
 use frames::Reply;
@@ -128,4 +130,46 @@ impl Bench {
             made,
         }
     }
+
+    // The answer to a last line that no LF ends; none for an empty one, and none without 13 bytes for it.
+    pub fn finish(self, line: &[u8], out: &mut [u8]) -> usize
+        ensures { λ r. ⌜ Finishes self (now (line .entry)) (now (out .entry)) (now (out .exit)) r ⌝ }
+    {
+        if line.len() == 0 {
+            return 0;
+        }
+        let r = self.line(line);
+        let reply = r.reply;
+        frames::put(out, 0, reply)
+    }
+}
+
+// m bytes of a buffer, from `from` on, are moved to its front.
+fn moved(buf: &mut [u8], from: usize, m: usize)
+    requires { ⌜ from + m ≤ length (now buf) ⌝ }
+    ensures { λ _. ⌜ Moved (now (buf .entry)) (now (buf .exit)) from m ⌝ }
+{
+    let mut j: usize = 0;
+    while j < m {
+        buf[j] = buf[from + j];
+        j += 1;
+    }
+}
+
+// Of the bytes from `used` up to n, which are an open line, at most 33 are kept, at the front of the buffer.
+pub fn keep(buf: &mut [u8], used: usize, n: usize) -> usize
+    ensures { λ r. ⌜ Keeps (now (buf .entry)) (now (buf .exit)) used n r ⌝ }
+{
+    if buf.len() < n {
+        return 0;
+    }
+    if n < used {
+        return 0;
+    }
+    if n - used > 33 {
+        moved(buf, used, 33);
+        return 33;
+    }
+    moved(buf, used, n - used);
+    n - used
 }
