@@ -1,0 +1,16 @@
+-- The statements of specs/Demands.antt, proved.
+use Rattle.session.specs.Demands
+use Rattle.session.proofs.Cuts as Cuts
+use Rattle.session.proofs.Taking as Taking
+
+pub any-cut : Demands.Any-cut
+any-cut = Cuts.any-cut
+
+pub taking-goes-on : Demands.Taking-goes-on
+taking-goes-on = Taking.taking-goes-on
+
+pub makes-progress : Demands.Makes-progress
+makes-progress = Taking.makes-progress
+
+pub room-for-all : Demands.Room-for-all
+room-for-all = Taking.room-for-all
