@@ -5,20 +5,22 @@ use mathlib.Core.Logic.{_↔_}
 use Prim.Native.Nat.{ℕ, zero, suc, _+_, _<_, _≤_}
 use native.Mathlib.Decide.{decLt}
 use native.Mathlib.Omega.{arith}
+use lib.Dec.{eqb}
+use borrow.Author.Tests.{le-ltb}
 use Rattle.clocks.specs.Clocks.{if_then_else_, after}
-use Rattle.clocks.specs.Bits.{bit, shares}
+use Rattle.clocks.specs.Bits.{bit, merge, withBit, shares}
 use Rattle.clocks.specs.Forecasts.{comes, soonerOf}
 use Rattle.clocks.specs.declared.Forecast.{Forecast}
 use Rattle.clocks.specs.declared.Forecast.the-variants.{Never, In}
 use Rattle.clocks.proofs.Tests.{picked}
 use Rattle.clocks.proofs.Forecasts.{comes-one, comes-at, comes-not-before, AtMost, most-sooner, most-gated, most-in}
-use Rattle.clocks.proofs.Bits.{bit-high, bit-merge, shares-found, shares-by}
+use Rattle.clocks.proofs.Bits.{bit-high, bit-merge, bit-with, shares-found, shares-by}
 use Rattle.timers.proofs.Firsts as First
 use Rattle.timers.proofs.Seconds as Second
 use Rattle.timers.specs.Closed.{topOf}
 use Rattle.via6522.specs.Record.{wellFormed, powerUp, resetOf}
 use Rattle.via6522.specs.Flags.{irqOf}
-use Rattle.via6522.specs.Ports.{linesA}
+use Rattle.via6522.specs.Ports.{linesA, linesB}
 use Rattle.via6522.specs.Clock.{timersOf, clockOf}
 use Rattle.via6522.specs.Closed.{stands, soonest}
 use Rattle.via6522.specs.Answers.{refusal, readRefusal, writeRefusal, pinsRefusal, refused, Foretold}
@@ -55,6 +57,20 @@ refuses-ill c v w =
     let e = meets-ill c v w in
     refuses c v (λ z. let q : _≡_ {A = ℕ} 1 0 = sym e ∙ z in omega arith) ∙ ap (λ (n : ℕ). refused n v) e
 
+-- a well-formed one with operands that are allowed meets none
+meets-none : (c : Call) (v : Via) → wellFormed v ≡ true → Demands.Allowed c → meets c v ≡ 0
+unfolding refusal readRefusal writeRefusal pinsRefusal
+meets-none reset v w a = rw w
+meets-none (read r) v w a = rw (w, le-ltb 15 r a)
+meets-none (write r x) v w a = rw (w, le-ltb 15 r (a .0), a .1)
+meets-none (pins pa pb control) v w a = rw (w, le-ltb 15 control a)
+meets-none clock v w a = rw w
+meets-none (run n) v w a = rw w
+meets-none forecast v w a = rw w
+
+pub accepts-well : Demands.Accepts-well
+accepts-well c v w a = ap (λ (r : Answer). r .refusal) (accepts c v (meets-none c v w a))
+
 pub power-up-well : Demands.Power-up-well
 power-up-well = refl
 
@@ -71,6 +87,23 @@ reached-well v r = well v (reached-formed v r)
 pub lines-by-bit : Demands.Lines-by-bit
 unfolding linesA
 lines-by-bit v k h l = bit-merge k (v .a .ddr) (v .a .output) (v .a .outside) h l
+
+pub lines-by-bit-b : Demands.Lines-by-bit-B
+unfolding linesB
+lines-by-bit-b v outside k h l = go (bit 7 (v .acr))
+  where
+    lines : ℕ
+    lines = merge (v .b .ddr) (v .b .output) outside
+
+    rule : Bool
+    rule = if bit k (v .b .ddr) then bit k (v .b .output) else bit k outside
+
+    plain : bit k lines ≡ rule
+    plain = bit-merge k (v .b .ddr) (v .b .output) outside h l
+
+    go : (b : Bool) → bit k (if b then withBit 7 (v .t1 .level) lines else lines) ≡ (if b && eqb k 7 then v .t1 .level else rule)
+    go true = bit-with 7 (v .t1 .level) k lines ∙ ap (λ (q : Bool). if eqb k 7 then v .t1 .level else q) plain
+    go false = plain
 
 -- the line of a record whose flags are seven bits
 raised : (v : Via) → Formed v → (irqOf v ≡ true) ↔ Demands.Raised v

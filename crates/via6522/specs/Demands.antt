@@ -1,17 +1,18 @@
 -- What the three demands ask of the 6522 beyond the promise of each entry. proofs/Demands.antt has a proof of each statement, under its name in small letters.
 use mathlib.Core.Path.{_≡_}
-use mathlib.Core.Bool.{Bool, true, false}
+use mathlib.Core.Bool.{Bool, true, false, _&&_}
 use mathlib.Core.Logic.{_↔_}
 use Prim.Native.Nat.{ℕ, _<_, _≤_}
+use lib.Dec.{eqb}
 use Rattle.clocks.specs.Clocks.{if_then_else_, after}
 use Rattle.clocks.specs.Bits.{bit}
 use Rattle.clocks.specs.declared.Forecast.{Forecast}
 use Rattle.clocks.specs.declared.Forecast.the-variants.{Never, In}
 use Rattle.via6522.specs.Record.{wellFormed, powerUp, resetOf}
 use Rattle.via6522.specs.Flags.{irqOf}
-use Rattle.via6522.specs.Ports.{linesA}
+use Rattle.via6522.specs.Ports.{linesA, linesB}
 use Rattle.via6522.specs.Pins.{pinsOf}
-use Rattle.via6522.specs.Access.{dataOf, readOf, writeOf}
+use Rattle.via6522.specs.Access.{dataOf, readOf, writeOf, refusedForm}
 use Rattle.via6522.specs.Clock.{clockOf}
 use Rattle.via6522.specs.Answers.{refusal, readRefusal, writeRefusal, pinsRefusal, refused, judged, Foretold}
 use Rattle.via6522.specs.declared.Via.{Via}
@@ -82,6 +83,20 @@ Refused-leaves = (c : Call) (v : Via) → (answerOf c v .refusal ≡ 0 → ⊥) 
 abbrev pub Refuses-ill : Type 0
 Refuses-ill = (c : Call) (v : Via) → wellFormed v ≡ false → answerOf c v ≡ refused 1 v
 
+-- the operands name a register that there is, pick no mode that is left out, and give four control levels
+abbrev pub Allowed : Call → Type 0
+Allowed reset = Unit {0}
+Allowed (read r) = r ≤ 15
+Allowed (write r x) = (r ≤ 15) × (refusedForm r x ≡ false)
+Allowed (pins pa pb control) = control ≤ 15
+Allowed clock = Unit {0}
+Allowed (run n) = Unit {0}
+Allowed forecast = Unit {0}
+
+-- and with such operands every well-formed record is taken
+abbrev pub Accepts-well : Type 0
+Accepts-well = (c : Call) (v : Via) → wellFormed v ≡ true → Allowed c → answerOf c v .refusal ≡ 0
+
 -- power-up is well formed, a reset leaves it as it is, and every accepted call keeps a record well formed
 abbrev pub Power-up-well : Type 0
 Power-up-well = wellFormed powerUp ≡ true
@@ -100,6 +115,13 @@ abbrev pub Lines-by-bit : Type 0
 Lines-by-bit =
     (v : Via) (k : ℕ) → k < 8 → v .a .ddr < 256
     → bit k (linesA (v .a .outside) v) ≡ (if bit k (v .a .ddr) then bit k (v .a .output) else bit k (v .a .outside))
+
+-- and of port B: PB7 is T1's level under ACR bit 7, every other line goes by the rule of port A
+abbrev pub Lines-by-bit-B : Type 0
+Lines-by-bit-B =
+    (v : Via) (outside k : ℕ) → k < 8 → v .b .ddr < 256
+    → bit k (linesB outside v)
+    ≡ (if bit 7 (v .acr) && eqb k 7 then v .t1 .level else if bit k (v .b .ddr) then bit k (v .b .output) else bit k outside)
 
 -- demand 3: the line is asserted exactly when some bit is set in both IFR and IER
 abbrev pub Raised : Via → Type 0

@@ -5,7 +5,7 @@ use Rattle.via6522.proofs.Via.after_read.Tie as tie
 
 returns : tie.Need-returns
 unfolding readOf
-returns c = cc
+returns c = rw (c .cleared .ensures, c .before .read-clears .ensures)
 
 pub after-read-spec : {M : Type 1} → statement M
 after-read-spec = tie.close (tie.spec (λ c κs. search needs) (λ c κs. search needs) returns)
