@@ -36,7 +36,7 @@ pub bit-high : (n k x : ℕ) → x < 2 ^ n → n ≤ k → bit k x ≡ false
 unfolding bit
 bit-high n k x h l = let g : x < 2 ^ k = omega (arith, pow-mono l) in rw (div-eq-of-lt g)
 
--- an operation that goes by f on digits goes by f on bits
+-- where an operation acts on each digit by f, each bit of its result is f of the operands' bits
 module _ (op : ℕ → ℕ → ℕ) (f : Bool → Bool → Bool)
     (shift : (x y k : ℕ) → op x y / 2 ^ k ≡ op (x / 2 ^ k) (y / 2 ^ k))
     (rest : (x y : ℕ) → op x y % 2 ≡ op (x % 2) (y % 2))
@@ -135,7 +135,7 @@ same-digit d e h g s =
     (λ q. eqb-true d 1 q)
     e g s
 
--- two numbers below 2 ^ n with the same n bits are one
+-- n bits settle a number that has no more of them
 pub same-bits : (n x y : ℕ) → x < 2 ^ n → y < 2 ^ n → ((k : ℕ) → k < n → bit k x ≡ bit k y) → x ≡ y
 same-bits zero x y h g e = omega arith
 same-bits (suc n) x y h g e =
@@ -148,7 +148,7 @@ below : (x : ℕ) → x < 2 ^ x
 below zero = lit< tt
 below (suc x) = omega (arith, pow-suc 2 x, below x)
 
--- and so are two numbers all of whose bits are the same
+-- and all bits settle any number
 pub all-bits : (x y : ℕ) → ((k : ℕ) → bit k x ≡ bit k y) → x ≡ y
 all-bits x y e =
     same-bits (x + y) x y

@@ -41,7 +41,7 @@ module _ {S P : Type 0} (f : P → P) (get : S → P) (put : S → P → S) wher
     part-after zero s = sym (L .put-get s)
     part-after (suc n) s = ap₂ put (part-after n s) (ap f (get-after n s)) ∙ L .put-put s _ _
 
--- what wraps back to c is the count below it
+-- a wrapping subtraction of one gives the count below
 pub lowered : (w r c : ℕ) → r < w → (r + 1) % w ≡ c → r ≡ lower w c
 lowered w r c h e = go (decLt (r + 1) w)
   where

@@ -30,7 +30,7 @@ comes-one (In x) (In y) e =
     let b = leb-true x y (e y ∙ comes-at y) in
     ap In (omega arith)
 
--- the sooner of two stands when either does
+-- the sooner forecast has come as soon as one of the two has
 pub sooner-comes : (f g : Forecast) (k : ℕ) → comes (soonerOf f g) k ≡ (comes f k || comes g k)
 sooner-comes Never g k = refl
 sooner-comes (In x) Never k = sym (or-false (leb x k))

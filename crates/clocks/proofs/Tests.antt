@@ -1,4 +1,4 @@
--- Tests that were joined, taken apart, and values picked by a test that is known.
+-- What follows from a joined test, and which value a known test picks.
 use mathlib.Core.Path.{_≡_, refl}
 use mathlib.Core.Bool.{Bool, true, false, _&&_, _||_, false≢true, true≢false}
 use mathlib.Core.Logic.{_⊎_, inl, inr}

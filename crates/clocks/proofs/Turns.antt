@@ -1,4 +1,4 @@
--- A counter that counts down to its passing of zero and from then on passes it once a period: n single clocks of it in closed form.
+-- Counters in closed form: down to zero, past it, and then round and round.
 use mathlib.Core.Path.{_≡_, refl, sym, ap, _∙_}
 use mathlib.Core.Bool.{Bool, true, false, _||_}
 use mathlib.Core.Logic.{_⊎_, inl, inr}
@@ -96,7 +96,7 @@ module _ {S : Type 0} {clock : S → S} {s : S} {top low : ℕ} {first : ℕ →
       let e : n ≡ n - suc top + suc top = omega arith in
       ap (λ (k : ℕ). after k clock s) e ∙ since-is (n - suc top)
 
-  -- a flag that only a passing raises, and only where `arms` says so, stands from the first passing on
+  -- the first passing raises a flag for good, if it is armed; counting alone never does
   module _ (flag : S → Bool) (arms : Bool) where
     pub record Raises : Type 0 where
       pub kept : (k : ℕ) → flag (first k) ≡ flag s

@@ -1,4 +1,4 @@
--- What all chips share: a value picked by a test, n clocks of a rule for one, and the count below a count.
+-- The words that every chip's rules are written with: if, after n clocks, and one less.
 use mathlib.Core.Bool.{Bool, true, false, cond}
 use Prim.Native.Nat.{ℕ, zero, suc, _-_}
 use lib.Dec.{eqb}
@@ -13,6 +13,6 @@ unfoldable pub after : {A : Type 0} → ℕ → (A → A) → A → A
 after zero f x = x
 after (suc n) f x = f (after n f x)
 
--- the count below c, in a count of w numbers: 0 is followed by the highest of them
+-- one less than c; below 0 comes the highest of the w numbers
 abbrev pub lower : ℕ → ℕ → ℕ
 lower w c = if eqb c 0 then w - 1 else c - 1

@@ -4,7 +4,7 @@ ghost use Rattle.clocks.specs.Clocks.{if_then_else_};
 ghost use Rattle.clocks.specs.Forecasts.{numberOf, soonerOf};
 ghost use Rattle.clocks.specs.Bits.{bit as bitOf, withSet, withClear, merge as mergeOf, shares as sharesOf};
 
-// After how many clocks a thing comes to stand.
+// When something will stand: so many clocks from now, or at no time.
 pub enum Forecast {
     Never,
     In(u32),

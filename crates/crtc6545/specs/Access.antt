@@ -55,7 +55,7 @@ writeRefusal a x v = if ltb 1 a then 3 else if refusedForm a x v then 4 else 0
 
 -- ---- reads
 
--- status: bit 6 light pen full, bit 5 vertical blanking, the others 0
+-- the status has a bit for a pen that was seen, and one for blanking below it
 unfoldable pub statusOf : Crtc → ℕ
 statusOf v = (if v .light .full then 64 else 0) + (if blankingOf (v .registers) (v .frame) then 32 else 0)
 
@@ -76,7 +76,7 @@ dataOf a v = if eqb a 0 then statusOf v else registerOf (v .address) v
 abbrev pub undrivenOf : ℕ → Crtc → Bool
 undrivenOf a v = eqb a 1 && eqb (v .address) 31
 
--- a read of R16 or R17 clears full; no other read changes anything
+-- who reads where the pen was has seen it; all other reads leave the record
 unfoldable pub readOf : ℕ → Crtc → Crtc
 readOf a v =
     record {

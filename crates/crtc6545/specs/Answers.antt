@@ -25,7 +25,7 @@ accepted d v =
       crtc = v;
     }
 
--- a refusal: its number, data 0, all lines 0, and the record as it was handed in
+-- a refused call shows its number and nothing else, and hands the record back untouched
 unfoldable pub refused : ℕ → Crtc → Answer
 refused n v =
     record {

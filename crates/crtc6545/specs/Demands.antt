@@ -63,7 +63,7 @@ answerOf c v = judged (refusalOf c v) v (givesOf c v) (leavesOf c v)
 abbrev pub Read-answers : Type 0
 Read-answers = (a : ℕ) (v : Crtc) → readingOf a v .answer ≡ answerOf (read a) v
 
--- the records that calls from power-up reach, refused calls among them
+-- every record that some list of calls leads to from power-up; refused calls may be in it
 pub data Reached : Crtc → Type 0 where
   at-power-up : Reached powerUp
   by : {v : Crtc} (c : Call) → Typed c → Reached v → Reached (answerOf c v .crtc)

@@ -49,7 +49,7 @@ markedOf r l f =
 abbrev pub cursorOf : Registers → Line → Frame → Bool
 cursorOf r l f = deOf r l f && markedOf r l f
 
--- R8 bit 4 shows the kept DE, bit 5 the kept CURSOR
+-- a skewed signal is the one that was kept a clock before; R8 has a bit for each
 abbrev pub shownDe : Crtc → Bool
 shownDe v = if bit 4 (v .registers .r8) then v .kept .de else deOf (v .registers) (v .line) (v .frame)
 

@@ -15,7 +15,7 @@ use Rattle.frames.specs.declared.Call45.the-variants as Crtc
 use Rattle.frames.specs.declared.Frame.{Frame}
 use Rattle.frames.specs.declared.Frame.the-variants.{Unknown, To22, To32, To45}
 
--- the bytes of a line, two characters each; 256 in place of what is no byte
+-- a line read two characters at a time; 256 marks a pair that is no byte, or a character left over
 abbrev pub bytesOf : List ℕ → List ℕ
 bytesOf [] = []
 bytesOf (h ∷ []) = 256 ∷ []
@@ -64,6 +64,6 @@ ofBytes (chip ∷ op ∷ s) =
 unfoldable pub checked : List ℕ → Frame
 checked s = if areBytes s then ofBytes s else Unknown
 
--- a line of at most 32 characters, every two of them a byte
+-- longer lines are not even looked at
 unfoldable pub frameOf : List ℕ → Frame
 frameOf l = if leb (length l) 32 then checked (bytesOf l) else Unknown

@@ -18,7 +18,7 @@ render (Done l) = hexOf 0 ++ hexOf l ++ 10 ∷ []
 render (Data l b) = hexOf 0 ++ hexOf l ++ hexOf b ++ 10 ∷ []
 render (Ahead l n) = hexOf 0 ++ hexOf l ++ wordOf n ++ 10 ∷ []
 
--- x stands after the first `at` bytes of a buffer, r is the place after it, and what lies beyond is untouched
+-- a text put into a buffer at a place: what was before it stands, r is where it ends, and the rest is untouched
 pub record Appended (before now : List ℕ) (at r : ℕ) (x : List ℕ) : Type 0 where
   pub place : r ≡ at + length x
   pub text : take r now ≡ take at before ++ x

@@ -1,4 +1,4 @@
--- n clocks of the record are n clocks of its timer, and when the interrupt line comes.
+-- Clocks move only the timer; so the timer alone says when the interrupt line comes.
 use mathlib.Core.Path.{_≡_, refl, sym, ap, ap₂, _∙_}
 use mathlib.Core.Bool.{Bool, true, false, not, _&&_, _||_, or-true, or-false}
 use Prim.Native.Nat.{ℕ, _+_, _-_}

@@ -105,7 +105,7 @@ ran-past t w n h =
     let e : n - suc (countsOf t) ≡ n - countsOf t - 1 = omega arith in
     after-past (turns t w) n h ∙ ap (λ (k : ℕ). spent (255 - k % 256) t) e
 
--- the flag after k clocks: it stood, or it is due by then
+-- the timer's flag, any number of clocks ahead
 pub flag-due : (t : Timer) → wellTimed t ≡ true → (k : ℕ) → after k clocked t .flag ≡ (comes (dueOf t) k || t .flag)
 flag-due t w = flag-after (turns t w) (λ t. t .flag) (not (t .expired)) (record { kept = kept; raised = λ q k. refl })
   where

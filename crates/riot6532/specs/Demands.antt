@@ -61,7 +61,7 @@ leavesOf forecast v = v
 abbrev pub answerOf : Call → Riot → Answer
 answerOf c v = judged v (givesOf c v) (leavesOf c v)
 
--- the records that calls from power-up reach, refused calls among them
+-- every record that some list of calls leads to from power-up; refused calls may be in it
 pub data Reached : Riot → Type 0 where
   at-power-up : Reached powerUp
   by : {v : Riot} (c : Call) → Typed c → Reached v → Reached (answerOf c v .riot)

@@ -39,7 +39,7 @@ withTimer t io = record { a = io .a; b = io .b; timer = t; pa7 = io .pa7 }
 abbrev pub withPa7 : Pa7 → Io → Io
 withPa7 e io = record { a = io .a; b = io .b; timer = io .timer; pa7 = e }
 
--- a timer with its flag and enable others
+-- a timer's interrupt side changed, its counting left alone
 abbrev pub flagged : Bool → Bool → Timer → Timer
 flagged f e t =
     record {

@@ -51,7 +51,7 @@ pub struct Riot {
     pub io: Io,
 }
 
-// What a call gives back: 0 or the number of the refusal, the byte read, the lines after the call, and the record.
+// The answer to a call: its refusal's number or 0, the byte that it read, the lines and the record as it left them.
 pub struct Answer {
     pub refusal: u8,
     pub data: u8,

@@ -18,7 +18,7 @@ use Rattle.session.specs.Sessions.{ended, open-line, last-line, nextOf, 
 use Rattle.session.specs.Pieces.{Held, at-start, held, wrote, written-for, joined}
 use Rattle.session.specs.declared.Bench.{Bench}
 
--- the lines of a ++ b: those of a, and then those of b after a's open line
+-- cutting a file in two cuts its list of lines in two, the second part starting in the line that the first left open
 pub ended-append : (l a b : List ℕ) → ended l (a ++ b) ≡ ended l a ++ ended (open-line l a) b
 ended-append l [] b = refl
 ended-append l (x ∷ a) b = go (eqb x 10) (ended-append [] a b) (ended-append (l ++ x ∷ []) a b)
@@ -88,7 +88,7 @@ open-quiet p (x ∷ s) q =
     go true e a b = a
     go false e a b = b e
 
--- what is written for s, where l has come of its first line
+-- the answers to the rest of a file in the middle of whose line l we stand
 answers : Bench → List ℕ → List ℕ → List ℕ
 answers b l s = saysAll b (ended l s ++ last-line (open-line l s))
 
@@ -101,7 +101,7 @@ long-says : (b : Bench) (p q : List ℕ) → 32 < length p → 32 < length q →
 unfolding saysOf
 long-says b p q h k = ap (λ (f : Frame). render (stepOf b f .reply)) (long-unknown p h ∙ sym (long-unknown q k))
 
--- so what has come of a line beyond that makes no difference
+-- hence 33 bytes of a line say as much as all of it
 same-long : (b : Bench) (p q : List ℕ) (ls : List (List ℕ)) → 32 < length p → 32 < length q → saysAll b (p ∷ ls) ≡ saysAll b (q ∷ ls)
 same-long b p q ls h k = λ i. long-says b p q h k i ++ saysAll (long-next b p q h k i) ls
 
@@ -134,7 +134,7 @@ trimmed b q s = go (decLe (length q) 33)
         let h : 33 ≤ length q = omega arith in
         trim b (take 33 q) q s (rw (length-take-le 33 q h) (omega arith)) (omega arith)
 
--- a piece's answers, and then those of what follows, with what is held
+-- the answers to two pieces, the second from what the first leaves
 answers-append : (b : Bench) (l s t : List ℕ) → answers b l (s ++ t) ≡ saysAll b (ended l s) ++ answers (nextAll b (ended l s)) (open-line l s) t
 unfolding answers
 answers-append b l s t = rw (ended-append, open-append, append-assoc, says-append)

@@ -25,7 +25,7 @@ pub says-short : (b : Bench) (l : List ℕ) → length (saysOf b l) ≤ 13
 unfolding saysOf
 says-short b l = render-short (stepOf b (frameOf l) .reply)
 
--- the bytes of s from `at` up to i
+-- the stretch of s between two places
 abbrev pub part : List ℕ → ℕ → ℕ → List ℕ
 part s at i = take (i - at) (drop at s)
 

@@ -61,7 +61,7 @@ pub record Keeps (before now : List ℕ) (used n kept : ℕ) : Type 0 where
 
 -- ---- a file cut into pieces
 
--- between two pieces: the bench, and of the line that no LF has ended yet at most 33 bytes
+-- what goes from one piece to the next: the bench, and the start of a line whose LF is still to come, 33 bytes at most
 pub record Held : Type 0 where
   pub bench : Bench
   pub kept : List ℕ

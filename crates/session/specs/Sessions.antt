@@ -10,12 +10,12 @@ use Rattle.frames.specs.Replies.{render}
 use Rattle.session.specs.Steps.{powerUp, stepOf}
 use Rattle.session.specs.declared.Bench.{Bench}
 
--- the lines of s that an LF ends, where l has come of the first of them
+-- the finished lines of s, l being the start of the first one
 abbrev pub ended : List ℕ → List ℕ → List (List ℕ)
 ended l [] = []
 ended l (b ∷ s) = if eqb b 10 then l ∷ ended [] s else ended (l ++ b ∷ []) s
 
--- what has come of the line after them
+-- and the unfinished one at its end
 abbrev pub open-line : List ℕ → List ℕ → List ℕ
 open-line l [] = l
 open-line l (b ∷ s) = if eqb b 10 then open-line [] s else open-line (l ++ b ∷ []) s

@@ -101,7 +101,7 @@ ran-past t n h =
     let p : suc (lowOf t) ≡ lowOf t + 1 = omega arith in
     after-past (turns t) n h ∙ (λ i. fallen (lowOf t - e i % p i) (turned (e i / p i) t))
 
--- the flag after k clocks: it stood, or it has come
+-- T1's flag, any number of clocks ahead
 flag-after-is :
     (t : T1) (k : ℕ) → after k clocked t .flag ≡ (comes (if t .free || t .armed then In (topOf t + 1) else Never) k || t .flag)
 flag-after-is t =

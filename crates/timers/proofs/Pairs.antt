@@ -1,4 +1,4 @@
--- n clocks of the pair are n clocks of each timer.
+-- The two timers of a pair run side by side.
 use mathlib.Core.Path.{_≡_, refl, ap}
 use Prim.Native.Nat.{ℕ, zero, suc}
 use Rattle.clocks.specs.Clocks.{after}

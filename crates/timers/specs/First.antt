@@ -5,7 +5,7 @@ use lib.Dec.{eqb}
 use Rattle.clocks.specs.Clocks.{if_then_else_}
 use Rattle.timers.specs.declared.T1.{T1}
 
--- the counter at c, with no reload to come
+-- T1 counting, at c
 abbrev pub at : ℕ → T1 → T1
 at c t =
     record {

@@ -1,4 +1,4 @@
--- The timer pair is a part of the record: what is put back is what is taken out. So n clocks of the chip are n clocks of its pair.
+-- The timer pair is a part of the record: what is put back is what is taken out. So running the pair runs the chip.
 use mathlib.Core.Path.{_≡_, refl, sym, ap, ap₂, _∙_}
 use mathlib.Core.Bool.{Bool, true, false}
 use Prim.Native.Nat.{ℕ}

@@ -5,7 +5,7 @@ use Rattle.timers.specs.Pair as Pair
 use Rattle.timers.specs.declared.Timers.{Timers}
 use Rattle.via6522.specs.declared.Via.{Via}
 
--- the pair: its flags stand in IFR bits 6 and 5, its modes in ACR bits 6 and 5
+-- the pair is gathered from where the chip keeps it: IFR has the flags in bits 6 and 5, and ACR the modes in the same
 unfoldable pub timersOf : Via → Timers
 timersOf v =
     record {

@@ -71,7 +71,7 @@ leavesOf forecast v = v
 abbrev pub answerOf : Call → Via → Answer
 answerOf c v = judged (meets c v) v (givesOf c v) (leavesOf c v)
 
--- the records that calls from power-up reach, refused calls among them
+-- every record that some list of calls leads to from power-up; refused calls may be in it
 pub data Reached : Via → Type 0 where
   at-power-up : Reached powerUp
   by : {v : Via} (c : Call) → Typed c → Reached v → Reached (answerOf c v .via)
@@ -123,7 +123,7 @@ Lines-by-bit-B =
     → bit k (linesB outside v)
     ≡ (if bit 7 (v .acr) && eqb k 7 then v .t1 .level else if bit k (v .b .ddr) then bit k (v .b .output) else bit k outside)
 
--- demand 3: the line is asserted exactly when some bit is set in both IFR and IER
+-- demand 3: the line stands for as long as a flag does that its enable lets through, and no longer
 abbrev pub Raised : Via → Type 0
 Raised v = (k : ℕ) × (bit k (v .ifr) ≡ true) × (bit k (v .ier) ≡ true)
 

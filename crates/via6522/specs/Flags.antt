@@ -15,7 +15,7 @@ irqOf v = shares 8 (v .ifr) (v .ier)
 abbrev pub independent : ℕ → Bool
 independent code = eqb code 1 || eqb code 3
 
--- the flags that an access to port A takes away: CA1's, and CA2's unless it is independent
+-- touching port A takes CA1's flag away, and CA2's with it unless that is independent
 abbrev pub flagsA : Via → ℕ
 flagsA v = if independent (codeA (v .pcr)) then 2 else 3
 

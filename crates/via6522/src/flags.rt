@@ -55,7 +55,7 @@ impl Via {
         clocks::shares(self.ifr, self.ier)
     }
 
-    // The flags that an access to port A takes away.
+    // What touching port A takes away of IFR.
     pub(crate) fn flags_a(self) -> u8
         ensures { λ r. ⌜ r ≡ flagsA self ⌝ }
     {
