@@ -5,7 +5,7 @@ use Rattle.via6522.proofs.Via.clocked.Tie as tie
 
 returns : tie.Need-returns
 unfolding clockOf
-returns c = rw (c .with-timers .ensures, c .before .clock .ensures, c .before .before .timers .ensures)
+returns c = cc
 
 pub clocked-spec : {M : Type 1} → statement M
 clocked-spec = tie.close (tie.spec (λ c κs. search needs) (λ c κs. search needs) (λ c κs. search needs) returns)

@@ -2,8 +2,5 @@ use borrow.Author.Needs.{needs}
 use Rattle.via6522.proofs.flags.refused_form.Statement.{statement}
 use Rattle.via6522.proofs.flags.refused_form.Tie as tie
 
-returns : tie.Need-returns
-returns c = rw (c .allowed-pcr .ensures, c .before .allowed-acr .ensures)
-
 pub refused-form-spec : {M : Type 1} → statement M
-refused-form-spec = tie.close (tie.spec (λ c κs. search needs) (λ c κs. search needs) returns)
+refused-form-spec = tie.close (tie.spec (λ c κs. search needs) (λ c κs. search needs) (λ c. cc))
