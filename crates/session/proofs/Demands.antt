@@ -1,6 +1,7 @@
 -- The statements of specs/Demands.antt, proved.
 use Rattle.session.specs.Demands
 use Rattle.session.proofs.Cuts as Cuts
+use Rattle.session.proofs.Piecing as Piecing
 use Rattle.session.proofs.Taking as Taking
 
 pub any-cut : Demands.Any-cut
@@ -14,3 +15,6 @@ makes-progress = Taking.makes-progress
 
 pub room-for-all : Demands.Room-for-all
 room-for-all = Taking.room-for-all
+
+pub feed-and-keep : Demands.Feed-and-keep
+feed-and-keep = Piecing.feed-and-keep

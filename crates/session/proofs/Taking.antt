@@ -2,7 +2,7 @@
 use mathlib.Core.Path.{_≡_, refl, ap, ap₂, sym, _∙_}
 use mathlib.Core.Bool.{Bool, true, false}
 use mathlib.Core.List.{List, [], _∷_, _++_, append-assoc, append-nil}
-use Prim.Native.Nat.{ℕ, zero, suc, _+_, _-_, _*_, _<_, _≤_}
+use Prim.Native.Nat.{ℕ, zero, suc, _+_, _-_, _*_, _<_, _≤_, zero-le}
 use native.Mathlib.Decide.{decLe, decLt}
 use native.Mathlib.Omega.{arith}
 use lib.Dec.{eqb, leb}
@@ -133,3 +133,21 @@ room-for-all room b s h =
     let k : 3 * (0 + length s) + 13 ≤ room = omega arith in
     let a = all [] s room b k in
     (a .text, a .bench, a .rest)
+
+-- no more is used than there is
+uses-within : (l s : List ℕ) (room : ℕ) (b : Bench) → takes room b (ended l s) .used ≤ length (l ++ s)
+uses-within l [] room b = zero-le
+uses-within l (x ∷ s) room b =
+    go (eqb x 10) (uses-within [] s (room - length (saysOf b l)) (nextOf b l)) (rw (append-assoc l (x ∷ []) s) at (uses-within (l ++ x ∷ []) s room b))
+  where
+    go :
+        (t : Bool) → takes (room - length (saysOf b l)) (nextOf b l) (ended [] s) .used ≤ length s
+        → takes room b (ended (l ++ x ∷ []) s) .used ≤ length (l ++ x ∷ s)
+        → takes room b (if t then l ∷ ended [] s else ended (l ++ x ∷ []) s) .used ≤ length (l ++ x ∷ s)
+    go true h k =
+        picked (λ (t : Taken). t .used ≤ length (l ++ x ∷ s)) (leb 13 room)
+        (omega (arith, h, length-append l (x ∷ s))) zero-le
+    go false h k = k
+
+pub used-within : (room : ℕ) (b : Bench) (s : List ℕ) → takes room b (ended [] s) .used ≤ length s
+used-within room b s = uses-within [] s room b

@@ -2,10 +2,11 @@
 use mathlib.Core.Path.{_≡_}
 use mathlib.Core.List.{List, [], _++_}
 use Prim.Native.Nat.{ℕ, _+_, _*_, _<_, _≤_}
-use lib.ListN.{length, drop}
+use lib.ListN.{length, take, drop}
 use Rattle.session.specs.Sessions.{ended, open-line, nextAll, saysAll, session}
-use Rattle.session.specs.Pieces.{takes, at-start, written-for, joined}
+use Rattle.session.specs.Pieces.{takes, Feeds, Keeps, at-start, written-for, joined, Piece}
 use Rattle.session.specs.declared.Bench.{Bench}
+use Rattle.session.specs.declared.Fed.{Fed}
 
 -- however a file is cut into pieces, what is written for them is what is written for the whole file, though of a line that goes on
 -- at most 33 bytes are kept
@@ -33,3 +34,10 @@ Room-for-all =
     → (takes room b (ended [] s) .text ≡ saysAll b (ended [] s))
     × (takes room b (ended [] s) .bench ≡ nextAll b (ended [] s))
     × (drop (takes room b (ended [] s) .used) s ≡ open-line [] s)
+
+-- what `feed` and then `keep` leave of an input buffer is what a piece leaves, where the output has room for all
+abbrev pub Feed-and-keep : Type 0
+Feed-and-keep =
+    (b : Bench) (buf buf′ out out′ : List ℕ) (kept n k : ℕ) (fed : Fed)
+    → kept ≤ n → n ≤ length buf → 3 * length buf + 13 ≤ length out
+    → Feeds b (take n buf) out out′ fed → Keeps buf buf′ (fed .used) n k → Piece b buf buf′ out′ kept n k fed

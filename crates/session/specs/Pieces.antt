@@ -85,3 +85,12 @@ written-for h (piece ∷ pieces) = wrote h piece ++ written-for (held h piece) p
 abbrev pub joined : List (List ℕ) → List ℕ
 joined [] = []
 joined (piece ∷ pieces) = piece ++ joined pieces
+
+-- a buffer of n bytes, whose first `kept` are what is held, fed and then kept of: it did what its new bytes do as a piece
+pub record Piece (b : Bench) (buf buf′ out′ : List ℕ) (kept n k : ℕ) (fed : Fed) : Type 0 where
+  pub next :
+      _≡_ {A = Held} (record { bench = fed .bench; kept = take k buf′ })
+      (held (record { bench = b; kept = take kept buf }) (drop kept (take n buf)))
+  pub out : take (fed .made) out′ ≡ wrote (record { bench = b; kept = take kept buf }) (drop kept (take n buf))
+  pub small : k ≤ 33
+  pub made : fed .made ≤ length out′
