@@ -19,8 +19,8 @@ module _ (b : Bench) (buf buf′ out out′ : List ℕ) (kept n k : ℕ) (fed : 
   size = length-take-le n buf l
 
   all : (takes (length out) b (ended [] (take n buf)) .text ≡ saysAll b (ended [] (take n buf)))
-    × (takes (length out) b (ended [] (take n buf)) .bench ≡ nextAll b (ended [] (take n buf)))
-    × (drop (takes (length out) b (ended [] (take n buf)) .used) (take n buf) ≡ open-line [] (take n buf))
+      × (takes (length out) b (ended [] (take n buf)) .bench ≡ nextAll b (ended [] (take n buf)))
+      × (drop (takes (length out) b (ended [] (take n buf)) .used) (take n buf) ≡ open-line [] (take n buf))
   all = room-for-all (length out) b (take n buf) (omega (arith, size))
 
   within : fed .used ≤ n
@@ -37,9 +37,9 @@ module _ (b : Bench) (buf buf′ out out′ : List ℕ) (kept n k : ℕ) (fed : 
   pieced : Piece b buf buf′ out′ kept n k fed
   pieced =
       let j : take kept buf ++ drop kept (take n buf) ≡ take n buf =
-          rw (← take-take kept n buf h) (take-append-drop kept (take n buf)) in
+      rw (← take-take kept n buf h) (take-append-drop kept (take n buf)) in
       let o : take k buf′ ≡ take 33 (open-line [] (take n buf)) =
-          g .moved within l .1 ∙ ap (λ (m : ℕ). take 33 (drop m (take n buf))) (f .used) ∙ ap (take 33) (all .2) in
+      g .moved within l .1 ∙ ap (λ (m : ℕ). take 33 (drop m (take n buf))) (f .used) ∙ ap (take 33) (all .2) in
       record {
         next = rw j (λ i. record { bench = (f .bench ∙ all .1) i; kept = o i });
         out = rw j (f .out .text ∙ all .0);
