@@ -1,0 +1,1125 @@
+#!/usr/bin/env python3
+"""Seeded session generator for the Snowferrule bench.
+
+    sessions.py SEED LINES [--max-run N] [--chip 22|32|45] [--hostile PERCENT]
+
+Writes a session of LINES lines to standard output. The same arguments always
+give the same bytes. --max-run bounds the 6522 and 6532 run counts, so that a
+bench that goes one clock at a time stays quick; without it counts go up to
+4,294,967,295. (6545 runs have their own limit of 65,535.)
+
+Each chip is a story told in phases: set the chip up for something, then poke
+around the clocks and levels where that something happens. To aim at them a
+story keeps a rough idea of when a timer is due. It's only an aim: were it
+wrong, the sessions would be duller, never invalid. The stories are interleaved
+in bursts, with hostile lines thrown in.
+"""
+
+import argparse
+import random
+import sys
+
+HIGHEST_COUNT = 0xFFFFFFFF
+
+
+class Story:
+    """What the chips' stories have in common."""
+
+    chip = 0
+
+    def __init__(self, rng, max_run):
+        self.rng = rng
+        self.max_run = max_run
+
+    def frame(self, *data):
+        return bytes((self.chip, *data)).hex().upper().encode()
+
+    def reset(self):
+        return self.frame(1)
+
+    def write(self, address, value):
+        return self.frame(2, address & 255, value & 255)
+
+    def read(self, address):
+        return self.frame(3, address & 255)
+
+    def forecast(self):
+        return self.frame(6)
+
+    def run_line(self, clocks):
+        return self.frame(5, *clocks.to_bytes(4, "big"))
+
+    def chance(self, percent):
+        return self.rng.random() * 100 < percent
+
+    def byte(self):
+        """A byte with a liking for the ends and for single bits."""
+        pick = self.rng.random()
+        if pick < 0.15:
+            return 0
+        if pick < 0.30:
+            return 255
+        if pick < 0.45:
+            return 1 << self.rng.randrange(8)
+        if pick < 0.55:
+            return 255 ^ (1 << self.rng.randrange(8))
+        return self.rng.randrange(256)
+
+    def bounded(self, clocks):
+        clocks = max(0, min(clocks, HIGHEST_COUNT))
+        if clocks > self.max_run:
+            clocks %= self.max_run + 1
+        return clocks
+
+    def huge(self):
+        return self.rng.choice((
+            HIGHEST_COUNT, HIGHEST_COUNT - 1, 0x80000000, 0x7FFFFFFF,
+            self.rng.randrange(1 << 32), self.rng.randrange(1 << 32),
+            self.rng.randrange(1 << 24), self.rng.randrange(1 << 20),
+            65536 * self.rng.randrange(1, 65536) + self.rng.choice((-2, -1, 0, 1)),
+        ))
+
+    def lines(self):
+        """The whole story: phases, drawn by weight, without an end."""
+        phases = self.phases()
+        names = [phase for phase, _ in phases]
+        weights = [weight for _, weight in phases]
+        yield from self.power_up_phase()
+        while True:
+            phase = self.rng.choices(names, weights)[0]
+            yield from phase()
+
+
+def draw(rng, table):
+    """One of a table's entries (weight, value)."""
+    total = sum(weight for weight, _ in table)
+    at = rng.random() * total
+    for weight, value in table:
+        at -= weight
+        if at < 0:
+            return value
+    return table[-1][1]
+
+
+class Story22(Story):
+    chip = 0x22
+    ALLOWED_CODES = (0, 1, 2, 3, 6, 7)
+
+    def __init__(self, rng, max_run):
+        super().__init__(rng, max_run)
+        self.acr = 0
+        self.latch = 0xFFFF
+        self.t1_due = 65536
+        self.t2_low = 0xFF
+        self.t2_due = 65536
+        self.pa = self.pb = 255
+        self.control = 15
+
+    def phases(self):
+        return ((self.t1_phase, 34), (self.t2_phase, 18), (self.pulse_phase, 12),
+                (self.edge_phase, 30), (self.noise_phase, 6))
+
+    # Calls that keep the aim up to date.
+
+    def set_acr(self, value):
+        if value & 0x1C == 0:
+            self.acr = value
+        return self.write(11, value)
+
+    def load_t1(self, value):
+        self.latch = value
+        self.t1_due = value + 1
+        return [self.write(self.rng.choice((4, 6)), value), self.write(5, value >> 8)]
+
+    def load_t2(self, value):
+        self.t2_low = value & 255
+        self.t2_due = value + 1
+        return [self.write(8, value), self.write(9, value >> 8)]
+
+    def run(self, clocks):
+        clocks = self.bounded(clocks)
+        if clocks < self.t1_due:
+            self.t1_due -= clocks
+        else:
+            period = self.latch + 2 if self.acr & 0x40 else 65536
+            self.t1_due = period - (clocks - self.t1_due) % period
+        if not self.acr & 0x20:
+            self.t2_due = (self.t2_due - 1 - clocks) % 65536 + 1
+        return self.run_line(clocks)
+
+    def aimed_run(self, due):
+        rng = self.rng
+        period = self.latch + 2
+        kind = rng.random()
+        if kind < 0.34:
+            return self.run(due + rng.choice((-2, -1, -1, 0, 0, 0, 1, 1, 2)))
+        if kind < 0.58:
+            return self.run(rng.choice((0, 1, 1, 1, 1, 2, 3)))
+        if kind < 0.76:
+            times = rng.choice((1, 1, 2, 2, 3, 4, 5, rng.randrange(1, 60)))
+            return self.run(times * period + rng.choice((-1, 0, 0, 1, due, due - 1)))
+        if kind < 0.84:
+            return self.run(65536 * rng.randrange(1, 4) + rng.choice((-1, 0, 1, due, due - 1)))
+        if kind < 0.92:
+            return self.run(rng.randrange(200))
+        if kind < 0.96:
+            return self.run(rng.randrange(70000))
+        return self.run(self.huge())
+
+    def count(self):
+        """A timer's value: small, at a byte's or word's end, or anything."""
+        rng = self.rng
+        return draw(rng, (
+            (40, rng.randrange(9)), (12, rng.randrange(256)),
+            (12, 256 * rng.randrange(1, 256) + rng.choice((-1, 0, 1))),
+            (12, rng.choice((0xFFFF, 0xFFFE, 0x8000, 0x7FFF, 0x00FF, 0x0100))),
+            (24, rng.randrange(65536)),
+        ))
+
+    def pins(self):
+        return self.frame(4, self.pa, self.pb, self.control)
+
+    def refused(self):
+        rng = self.rng
+        kind = rng.randrange(5)
+        if kind == 0:
+            spare = rng.randrange(256) & rng.choice((0xE3, 0xFF))
+            return self.write(11, spare | rng.choice((4, 8, 16)))
+        if kind == 1:
+            bad, good = rng.choice((4, 5)), rng.randrange(8)
+            low = rng.randrange(2) | rng.randrange(2) << 4
+            first, second = rng.choice(((bad, good), (good, bad), (bad, bad)))
+            return self.write(12, low | first << 1 | second << 5)
+        if kind == 2:
+            return self.write(rng.choice((16, 17, 31, 32, 128, 255, rng.randrange(16, 256))), self.byte())
+        if kind == 3:
+            return self.read(rng.choice((16, 17, 27, 28, 128, 255, rng.randrange(16, 256))))
+        return self.frame(4, self.byte(), self.byte(),
+                          rng.choice((16, 17, 31, 240, 255, rng.randrange(16, 256))))
+
+    def pcr_value(self):
+        rng = self.rng
+        return (rng.randrange(2) | rng.choice(self.ALLOWED_CODES) << 1
+                | rng.randrange(2) << 4 | rng.choice(self.ALLOWED_CODES) << 5)
+
+    def look(self):
+        """A read that shows much and changes nothing, or a forecast."""
+        return draw(self.rng, (
+            (30, self.forecast()), (25, self.read(13)), (8, self.read(5)),
+            (4, self.read(6)), (4, self.read(7)), (8, self.read(9)), (6, self.read(15)),
+            (2, self.read(11)), (2, self.read(12)), (3, self.read(14)), (2, self.read(10)),
+            (2, self.read(2)), (2, self.read(3)),
+        ))
+
+    def enables(self):
+        rng = self.rng
+        yield self.write(14, 0x7F)
+        if self.chance(90):
+            yield self.write(14, 0x80 | rng.choice((0x40, 0x40, 0x20, 0x20, 0x60, 0x60, 0x7F,
+                                                    0x04, 0x12, rng.randrange(128))))
+
+    def clear_some(self):
+        return self.write(13, self.rng.choice((0x40, 0x20, 0x60, 0x7F, 0xFF, 0x80, self.byte())))
+
+    # Phases.
+
+    def power_up_phase(self):
+        """Look at everything before anything is written."""
+        rng = self.rng
+        registers = list(range(16))
+        rng.shuffle(registers)
+        for register in registers[:rng.choice((4, 16, 16))]:
+            yield self.read(register)
+        yield self.forecast()
+        kind = rng.randrange(4)
+        if kind == 0:
+            # What T1 and T2 do when they pass zero without having been loaded.
+            yield self.write(14, 0xE0)
+            yield self.set_acr(rng.choice((0, 0x40, 0x80, 0xC0)))
+            yield self.forecast()
+            yield self.run(65535)
+            yield self.run(1)
+            yield self.run(1)
+            yield from (self.read(register) for register in (13, 0, 4, 5, 8, 9))
+        elif kind == 1:
+            # Levels that were high from the start: these are edges, or none.
+            self.pa, self.pb, self.control = self.byte(), self.byte(), rng.randrange(16)
+            yield self.write(12, rng.choice((0, 0, self.pcr_value())))
+            yield self.pins()
+            yield self.read(13)
+        elif kind == 2:
+            # The T2 low latch, and half a T1 latch, as they came.
+            yield self.write(9, rng.randrange(3))
+            yield self.write(5, rng.randrange(3))
+            yield from (self.read(register) for register in (4, 5, 6, 7, 8, 9))
+
+    def t1_phase(self):
+        rng = self.rng
+        if self.chance(10):
+            self.acr = 0
+            yield self.reset()
+        if self.chance(90):
+            yield self.set_acr(rng.choice((0x40, 0x40, 0xC0, 0xC0, 0x00, 0x80, rng.randrange(256) & 0xE3)))
+        yield from self.enables()
+        if self.chance(30):
+            yield self.write(2, self.byte())
+        yield from self.load_t1(self.count())
+        for _ in range(rng.randrange(6, 50)):
+            yield from draw(rng, (
+                (46, self.t1_run), (14, self.t1_look), (9, self.t1_read_4), (6, self.t1_pb7),
+                (7, self.t1_latch), (4, self.t1_switch), (3, self.t1_again), (4, self.t1_clear),
+                (2, self.t1_enables), (1, self.t1_reset), (2, self.t1_refused), (2, self.t1_store),
+            ))()
+
+    def t1_run(self):
+        yield self.aimed_run(self.t1_due)
+
+    def t1_look(self):
+        yield self.look()
+
+    def t1_read_4(self):
+        yield self.read(4)
+        if self.chance(40):
+            yield self.forecast()
+
+    def t1_pb7(self):
+        if not self.acr & 0x80 and self.chance(30):
+            yield self.set_acr(self.acr | 0x80)
+        yield self.read(0)
+
+    def t1_latch(self):
+        rng = self.rng
+        value = self.count()
+        # Write 6 or 4 gives the low half, 7 the high one; a change at the
+        # passing itself shows which latch the reload takes.
+        if self.chance(50):
+            yield self.run(self.t1_due)
+        if self.chance(75):
+            self.latch = self.latch & 0xFF00 | value & 255
+            yield self.write(rng.choice((4, 6)), value)
+        if self.chance(60):
+            self.latch = self.latch & 255 | value & 0xFF00
+            yield self.write(7, value >> 8)
+        if self.chance(50):
+            yield self.forecast()
+        yield self.run(rng.choice((1, 1, 2, self.t1_due)))
+        if self.chance(50):
+            yield self.read(rng.choice((4, 5)))
+
+    def t1_switch(self):
+        if self.chance(50):
+            yield self.run(self.t1_due)
+        yield self.set_acr(self.acr ^ self.rng.choice((0x40, 0x40, 0x40, 0x80, 0xC0, 0x20)))
+        if self.chance(50):
+            yield self.forecast()
+
+    def t1_again(self):
+        if self.chance(60):
+            yield from self.load_t1(self.count())
+        else:
+            high = self.rng.choice((0, 0, self.latch >> 8, self.byte()))
+            self.latch = self.latch & 255 | high << 8
+            self.t1_due = self.latch + 1
+            yield self.write(5, high)
+
+    def t1_clear(self):
+        yield self.clear_some()
+
+    def t1_enables(self):
+        yield self.write(14, self.byte())
+
+    def t1_reset(self):
+        if self.chance(60):
+            yield self.run(self.t1_due)
+        self.acr = 0
+        yield self.reset()
+        yield self.write(14, 0xE0)
+        if self.chance(70):
+            yield self.set_acr(0x40)
+
+    def t1_refused(self):
+        yield self.refused()
+
+    def t1_store(self):
+        yield self.write(self.rng.choice((0, 1, 2, 3, 10, 15)), self.byte())
+
+    def t2_phase(self):
+        rng = self.rng
+        if self.chance(85):
+            yield self.set_acr(rng.choice((0, 0x40, 0x80, rng.randrange(256) & 0xC3)))
+        yield from self.enables()
+        yield from self.load_t2(self.count())
+        for _ in range(rng.randrange(5, 30)):
+            kind = rng.random()
+            if kind < 0.45:
+                yield self.aimed_run(self.t2_due)
+            elif kind < 0.62:
+                yield self.look()
+            elif kind < 0.72:
+                yield self.read(8)
+            elif kind < 0.77:
+                value = self.byte()
+                yield self.write(8, value)
+                self.t2_low = value
+            elif kind < 0.81:
+                high = rng.choice((0, 0, self.byte()))
+                self.t2_due = high * 256 + self.t2_low + 1
+                yield self.write(9, high)
+            elif kind < 0.86:
+                yield self.clear_some()
+            elif kind < 0.90:
+                yield self.set_acr(self.acr ^ 0x20)
+                yield self.run(rng.choice((1, 5, self.t2_due)))
+            elif kind < 0.93:
+                yield from self.load_t1(self.count())
+            elif kind < 0.96:
+                yield self.write(14, self.byte())
+            elif kind < 0.97:
+                self.acr = 0
+                yield self.reset()
+                yield self.write(14, 0xA0)
+            else:
+                yield self.refused()
+
+    def pulse_phase(self):
+        rng = self.rng
+        yield self.set_acr(0x20 | rng.choice((0, 0x40, 0xC3, rng.randrange(256) & 0xE3)))
+        yield from self.enables()
+        yield from self.load_t2(draw(rng, ((70, rng.randrange(6)), (15, 256), (15, self.count()))))
+        if self.chance(40):
+            yield self.write(2, self.byte())
+        for _ in range(rng.randrange(8, 40)):
+            kind = rng.random()
+            if kind < 0.58:
+                self.pb ^= 0x40
+                if self.chance(20):
+                    self.pb = rng.randrange(256)
+                yield self.pins()
+            elif kind < 0.68:
+                yield self.look()
+            elif kind < 0.74:
+                yield self.read(rng.choice((8, 9, 13)))
+            elif kind < 0.80:
+                yield self.run(rng.choice((0, 1, 3, 300, 70000)))
+            elif kind < 0.85:
+                yield self.set_acr(self.acr ^ 0x20)
+            elif kind < 0.90:
+                yield from self.load_t2(rng.randrange(4))
+            elif kind < 0.93:
+                yield self.clear_some()
+            elif kind < 0.95:
+                yield self.write(2, self.byte())
+            elif kind < 0.97:
+                yield self.write(0, self.byte())
+            else:
+                yield self.refused()
+
+    def edge_phase(self):
+        rng = self.rng
+        yield self.set_acr(rng.choice((0, 1, 2, 3, 3, 3, 0x83, 0xC3, rng.randrange(256) & 0xE3)))
+        yield self.write(12, self.pcr_value())
+        yield from self.enables()
+        yield self.write(2, self.byte())
+        yield self.write(3, self.byte())
+        for _ in range(rng.randrange(10, 60)):
+            yield from draw(rng, (
+                (34, self.edge_pins), (9, self.edge_read_a), (9, self.edge_read_b),
+                (6, self.edge_read_15), (8, self.edge_ifr), (5, self.edge_port_write),
+                (4, self.edge_ddr), (4, self.edge_pcr), (3, self.edge_acr), (4, self.edge_clear),
+                (3, self.edge_enables), (3, self.t1_look), (3, self.edge_timer), (2, self.t1_refused),
+                (1, self.edge_reset), (1, self.edge_sr),
+            ))()
+
+    def edge_pins(self):
+        rng = self.rng
+        if self.chance(60):
+            self.pa = rng.randrange(256)
+        if self.chance(60):
+            self.pb = rng.randrange(256)
+        for _ in range(rng.choice((1, 1, 1, 2, 3))):
+            self.control ^= 1 << rng.randrange(4)
+        if self.chance(10):
+            self.control = rng.randrange(16)
+        yield self.pins()
+        if self.chance(25):
+            yield self.read(13)
+
+    def edge_read_a(self):
+        yield self.read(1)
+
+    def edge_read_b(self):
+        yield self.read(0)
+
+    def edge_read_15(self):
+        yield self.read(15)
+
+    def edge_ifr(self):
+        yield self.read(13)
+
+    def edge_port_write(self):
+        yield self.write(self.rng.choice((0, 1, 15)), self.byte())
+
+    def edge_ddr(self):
+        yield self.write(self.rng.choice((2, 3)), self.byte())
+
+    def edge_pcr(self):
+        yield self.write(12, self.pcr_value())
+        if self.chance(30):
+            yield self.read(12)
+
+    def edge_acr(self):
+        yield self.set_acr(self.acr ^ self.rng.choice((1, 2, 3, 0x80)))
+
+    def edge_clear(self):
+        yield self.write(13, self.rng.choice((1, 2, 8, 0x10, 0x1B, 0x80, 0x7F, self.byte())))
+
+    def edge_enables(self):
+        yield self.write(14, self.rng.choice((0x80, 0)) | 1 << self.rng.randrange(7))
+        if self.chance(30):
+            yield self.read(14)
+
+    def edge_timer(self):
+        if self.chance(50):
+            yield from self.load_t1(self.rng.randrange(6))
+        yield self.run(self.rng.randrange(8))
+
+    def edge_reset(self):
+        self.acr = 0
+        yield self.reset()
+        yield self.set_acr(3)
+
+    def edge_sr(self):
+        yield self.write(10, self.byte())
+        yield self.read(10)
+
+    def noise_phase(self):
+        rng = self.rng
+        for _ in range(rng.randrange(5, 40)):
+            kind = rng.random()
+            if kind < 0.35:
+                register, value = rng.randrange(16), rng.randrange(256)
+                if register == 11:
+                    yield self.set_acr(value & rng.choice((0xE3, 0xE3, 0xFF)))
+                elif register == 5:
+                    self.latch = self.latch & 255 | value << 8
+                    self.t1_due = self.latch + 1
+                    yield self.write(5, value)
+                else:
+                    yield self.write(register, value)
+            elif kind < 0.65:
+                yield self.read(rng.randrange(16))
+            elif kind < 0.80:
+                self.pa, self.pb = rng.randrange(256), rng.randrange(256)
+                self.control = rng.randrange(16)
+                yield self.pins()
+            elif kind < 0.93:
+                yield self.aimed_run(rng.choice((self.t1_due, self.t2_due)))
+            elif kind < 0.97:
+                yield self.forecast()
+            elif kind < 0.98:
+                self.acr = 0
+                yield self.reset()
+            else:
+                yield self.refused()
+
+
+class Story32(Story):
+    chip = 0x32
+
+    def __init__(self, rng, max_run):
+        super().__init__(rng, max_run)
+        self.pa = self.pb = 255
+        self.divider = 1024
+        self.due = 255 * 1024 + 1
+
+    def phases(self):
+        return ((self.timer_phase, 45), (self.pa7_phase, 22), (self.port_phase, 12),
+                (self.ram_phase, 9), (self.noise_phase, 12))
+
+    def io(self, wanted, ignored):
+        """An I/O address with the wanted bits and any of the ignored ones."""
+        return 0x80 | wanted | self.rng.randrange(256) & (ignored | 0x60)
+
+    def load(self, divider, value, enable):
+        self.divider = (1, 8, 64, 1024)[divider]
+        self.due = 1 + value * self.divider
+        return self.write(self.io(0x14 | divider | (8 if enable else 0), 0), value)
+
+    def read_timer(self):
+        return self.read(self.io(0x04 | self.rng.choice((0, 8)), 0x12))
+
+    def read_flags(self):
+        return self.read(self.io(0x05, 0x1A))
+
+    def pa7_control(self):
+        return self.write(self.io(0x04 | self.rng.randrange(4), 0x08), self.rng.randrange(256))
+
+    def pins(self):
+        return self.frame(4, self.pa, self.pb)
+
+    def run(self, clocks):
+        clocks = self.bounded(clocks)
+        if clocks < self.due:
+            self.due -= clocks
+        else:
+            # Expired: the next thing to see is the value's wrap.
+            self.due = 256 - (clocks - self.due) % 256
+        return self.run_line(clocks)
+
+    def aimed_run(self):
+        rng = self.rng
+        kind = rng.random()
+        if kind < 0.38:
+            return self.run(self.due + rng.choice((-2, -1, -1, 0, 0, 0, 1, 1, 2)))
+        if kind < 0.58:
+            return self.run(rng.choice((0, 1, 1, 1, 2, 3)))
+        if kind < 0.76:
+            return self.run(self.divider * rng.randrange(1, 20) + rng.choice((-1, 0, 0, 1)))
+        if kind < 0.84:
+            return self.run(rng.randrange(300))
+        if kind < 0.90:
+            return self.run(256 * rng.randrange(1, 300) + rng.choice((-1, 0, 1)))
+        if kind < 0.96:
+            return self.run(rng.randrange(270000))
+        return self.run(self.huge())
+
+    def power_up_phase(self):
+        """Look at everything before anything is written."""
+        rng = self.rng
+        looks = [self.read(self.io(port, 0x18)) for port in range(4)]
+        looks += [self.read_flags(), self.forecast(), self.read(rng.randrange(128))]
+        rng.shuffle(looks)
+        yield from looks
+        if self.chance(60):
+            # The timer as it came; this read also turns its enable on.
+            yield self.read(self.io(0x0C, 0x12))
+            yield self.forecast()
+            yield self.aimed_run()
+            yield self.read(self.io(0x0C, 0x12))
+            yield self.run(self.due - 1)
+            yield self.run(1)
+        else:
+            yield self.write(self.io(0x06 | rng.randrange(2), 0x08), self.byte())
+            self.pa, self.pb = self.byte() & 0x7F, self.byte()
+            yield self.pins()
+            yield self.read_flags()
+
+    def timer_phase(self):
+        rng = self.rng
+        if self.chance(8):
+            yield self.reset()
+        value = draw(rng, ((40, rng.randrange(5)), (12, 52), (12, 255), (36, rng.randrange(256))))
+        if self.chance(95):
+            yield self.load(rng.randrange(4), value, self.chance(75))
+        for _ in range(rng.randrange(5, 35)):
+            kind = rng.random()
+            if kind < 0.47:
+                yield self.aimed_run()
+            elif kind < 0.61:
+                yield self.read_timer()
+            elif kind < 0.71:
+                yield self.read_flags()
+            elif kind < 0.83:
+                yield self.forecast()
+            elif kind < 0.87:
+                yield self.load(rng.randrange(4), rng.choice((0, 1, 2, 255, rng.randrange(256))),
+                                self.chance(75))
+            elif kind < 0.91:
+                yield self.pa7_control()
+            elif kind < 0.95:
+                self.pa ^= 0x80
+                yield self.pins()
+            elif kind < 0.965:
+                yield self.reset()
+                if self.chance(70):
+                    yield self.read(self.io(0x0C, 0x12))
+            else:
+                yield self.write(self.io(rng.randrange(4), 0x18), self.byte())
+
+    def pa7_phase(self):
+        rng = self.rng
+        yield self.pa7_control()
+        for _ in range(rng.randrange(6, 40)):
+            kind = rng.random()
+            if kind < 0.45:
+                self.pa = rng.choice((self.pa ^ 0x80, self.pa ^ 0x80, rng.randrange(256)))
+                yield self.pins()
+            elif kind < 0.62:
+                yield self.read_flags()
+            elif kind < 0.75:
+                yield self.pa7_control()
+            elif kind < 0.80:
+                yield self.forecast()
+            elif kind < 0.85:
+                yield self.write(self.io(rng.choice((0, 1, 1)), 0x18), self.byte())
+            elif kind < 0.90:
+                yield self.run(rng.choice((0, 1, 7, self.due)))
+            elif kind < 0.94:
+                yield self.read_timer()
+            elif kind < 0.97:
+                yield self.load(rng.randrange(2), rng.randrange(3), self.chance(60))
+            else:
+                yield self.reset()
+
+    def port_phase(self):
+        rng = self.rng
+        for _ in range(rng.randrange(6, 30)):
+            kind = rng.random()
+            if kind < 0.35:
+                yield self.write(self.io(rng.randrange(4), 0x18), self.byte())
+            elif kind < 0.70:
+                yield self.read(self.io(rng.randrange(4), 0x18))
+            elif kind < 0.95:
+                self.pa, self.pb = rng.randrange(256), rng.randrange(256)
+                yield self.pins()
+            elif kind < 0.98:
+                yield self.read_flags()
+            else:
+                yield self.reset()
+
+    def ram_phase(self):
+        rng = self.rng
+        places = [0, 127, *(rng.randrange(128) for _ in range(4))]
+        for _ in range(rng.randrange(6, 30)):
+            place = rng.choice(places) if self.chance(70) else rng.randrange(128)
+            kind = rng.random()
+            if kind < 0.45:
+                yield self.write(place, self.byte())
+            elif kind < 0.98:
+                yield self.read(place)
+            else:
+                yield self.reset()
+
+    def noise_phase(self):
+        rng = self.rng
+        for _ in range(rng.randrange(8, 50)):
+            kind = rng.random()
+            if kind < 0.40:
+                address, value = rng.randrange(256), rng.randrange(256)
+                if address & 0x94 == 0x94:
+                    self.divider = (1, 8, 64, 1024)[address & 3]
+                    self.due = 1 + value * self.divider
+                yield self.write(address, value)
+            elif kind < 0.75:
+                yield self.read(rng.randrange(256))
+            elif kind < 0.83:
+                self.pa, self.pb = rng.randrange(256), rng.randrange(256)
+                yield self.pins()
+            elif kind < 0.95:
+                yield self.aimed_run()
+            elif kind < 0.99:
+                yield self.forecast()
+            else:
+                yield self.reset()
+
+
+class Story45(Story):
+    chip = 0x45
+    WIDTHS = {4: 127, 6: 127, 7: 127, 10: 127, 12: 63, 14: 63, 18: 63, 5: 31, 9: 31, 11: 31}
+
+    def __init__(self, rng, max_run):
+        super().__init__(rng, max_run)
+        self.r = [0] * 32
+        self.pen = 0
+
+    def phases(self):
+        return ((self.tiny_phase, 52), (self.blink_phase, 12), (self.plain_phase, 10),
+                (self.lowered_phase, 14), (self.noise_phase, 12))
+
+    def select(self, register):
+        # The upper three bits of the address register aren't there.
+        high = self.rng.randrange(8) << 5 if self.chance(15) else 0
+        return self.write(0, register | high)
+
+    def set(self, register, value):
+        width = self.WIDTHS.get(register, 255)
+        self.r[register] = value & 255 & width
+        if self.chance(15):
+            # Bits beyond the width, which must drop.
+            value |= self.rng.randrange(256) & ~width
+        return [self.select(register), self.write(1, value)]
+
+    def run(self, clocks):
+        return self.run_line(max(0, min(clocks, 65535)))
+
+    def frame_clocks(self):
+        r = self.r
+        return (r[0] + 1) * ((r[4] + 1) * (r[9] + 1) + r[5])
+
+    def reads(self, *registers):
+        for register in registers:
+            yield self.select(register)
+            yield self.read(1)
+
+    def strobe(self, clocks):
+        """Pen up, some clocks, and what it stored."""
+        if self.pen:
+            self.pen = 0
+            yield self.frame(4, 0)
+        self.pen = 1
+        yield self.frame(4, 1)
+        if self.chance(15):
+            self.pen = 0
+            yield self.frame(4, 0)
+        yield self.run(clocks)
+        if self.chance(40):
+            yield self.read(0)
+        yield from self.reads(*self.rng.choice(((16, 17), (16, 17), (17, 16), (17,))))
+        if self.chance(15):
+            yield self.read(0)
+
+    def refused(self):
+        rng = self.rng
+        kind = rng.randrange(5)
+        if kind == 0:
+            yield self.select(8)
+            spare = rng.choice((0, rng.randrange(256))) & rng.choice((0x34, 0xFF))
+            yield self.write(1, spare | rng.choice((1, 2, 8, 0x40, 0x80)))
+        elif kind == 1:
+            yield self.write(rng.choice((2, 3, 128, 255, rng.randrange(2, 256))), self.byte())
+        elif kind == 2:
+            yield self.read(rng.choice((2, 3, 128, 255, rng.randrange(2, 256))))
+        elif kind == 3:
+            yield self.frame(4, rng.choice((2, 3, 128, 255, rng.randrange(2, 256))))
+        else:
+            yield self.run_line(rng.choice((65536, 65537, 0x10001, 0x80000000, HIGHEST_COUNT,
+                                            65536 * rng.randrange(1, 65536) + rng.randrange(100))))
+
+    def sync_widths(self):
+        rng = self.rng
+        return rng.choice((0, 1, 2, 3, rng.randrange(16))) | rng.choice((0, 1, 2, 3, rng.randrange(16))) << 4
+
+    def start(self):
+        rng = self.rng
+        return rng.choice((0, 0, 0x3FFF, 0x3FF0 + rng.randrange(16), 0x00F8 + rng.randrange(16),
+                           rng.randrange(16384)))
+
+    def cursor_near_start(self):
+        rng = self.rng
+        first = self.r[12] << 8 | self.r[13]
+        reach = max(1, self.r[1]) * (self.r[4] + 1)
+        if self.r[8] & 4 and self.chance(80):
+            place = ((self.r[12] + rng.randrange(self.r[4] + 2)) % 64) << 8
+            place |= (self.r[13] + rng.randrange(max(1, self.r[1]))) % 256
+        elif self.chance(15):
+            place = rng.randrange(16384)
+        else:
+            place = (first + rng.randrange(min(reach + 2, 16384))) % 16384
+        yield from self.set(14, place >> 8)
+        yield from self.set(15, place)
+
+    def cursor_shape(self):
+        rng = self.rng
+        top = rng.choice((0, 0, 0, 1, 2, rng.randrange(32)))
+        mode = rng.choice((0, 0, 0, 1, 2, 3))
+        yield from self.set(10, top | mode << 5)
+        yield from self.set(11, rng.choice((0, 1, 2, 31, 31, 31, rng.randrange(256))))
+
+    def tiny_frame(self):
+        rng = self.rng
+        r0 = rng.choice((0, 1, 2, 3, 3, 4, 5, 7))
+        settings = [
+            (0, r0), (1, rng.choice((0, 1, r0, r0, r0 + 1, r0 + 1, r0 + 1, 255))),
+            (2, rng.randrange(r0 + 2)), (3, self.sync_widths()),
+            (4, rng.choice((0, 1, 1, 2, 3))), (5, rng.choice((0, 0, 1, 1, 2, 3))),
+            (6, rng.choice((0, 1, 2, 2, 3, 4, 127))), (7, rng.choice((0, 0, 1, 1, 2, 3))),
+            (8, rng.choice((0, 0, 0x04, 0x10, 0x20, 0x30, 0x34, 0x14, 0x24))),
+            (9, rng.choice((0, 0, 1, 1, 2, 3))),
+        ]
+        begin = self.start()
+        settings += [(12, begin >> 8), (13, begin)]
+        rng.shuffle(settings)
+        for register, value in settings:
+            yield from self.set(register, value)
+        yield from self.cursor_shape()
+        yield from self.cursor_near_start()
+        if self.chance(70):
+            yield self.reset()
+
+    def poke(self):
+        rng = self.rng
+        frame = self.frame_clocks()
+        line = self.r[0] + 1
+        kind = rng.random()
+        if kind < 0.52:
+            yield self.run(1)
+        elif kind < 0.62:
+            yield self.run(rng.choice((0, 2, 3, line - 1, line, line, line + 1, line * (self.r[9] + 1))))
+        elif kind < 0.68:
+            yield self.run(frame * rng.choice((1, 1, 2, 8, 16, 32)) + rng.choice((-1, 0, 0, 1)))
+        elif kind < 0.75:
+            yield from self.strobe(rng.choice((1, 1, 1, 2, 0, rng.randrange(frame + 1))))
+        elif kind < 0.79:
+            yield self.read(0)
+        elif kind < 0.83:
+            yield from self.cursor_near_start()
+        elif kind < 0.85:
+            yield from self.cursor_shape()
+        elif kind < 0.87:
+            yield from self.set(8, rng.choice((0, 0x04, 0x10, 0x20, 0x30, 0x34, 0x14, 0x24)))
+        elif kind < 0.89:
+            begin = self.start()
+            yield from self.set(12, begin >> 8)
+            yield from self.set(13, begin)
+        elif kind < 0.93:
+            register = rng.choice((0, 1, 2, 3, 4, 5, 6, 7, 9))
+            value = self.sync_widths() if register == 3 else rng.randrange(5)
+            yield from self.set(register, value)
+        elif kind < 0.95:
+            yield from self.reads(rng.choice((14, 15, 16, 17, 31, 31, rng.randrange(32))))
+        elif kind < 0.96:
+            yield from self.set(rng.choice((16, 17, 18, 19, rng.randrange(20, 32))), self.byte())
+        elif kind < 0.97:
+            yield self.reset()
+        elif kind < 0.985:
+            self.pen = rng.randrange(2)
+            yield self.frame(4, self.pen)
+        else:
+            yield from self.refused()
+
+    def power_up_phase(self):
+        """All registers 0, so a frame is one clock: look before writing."""
+        yield self.read(0)
+        yield self.read(1)
+        if self.chance(50):
+            # Nothing is selected yet, so this must go to R0.
+            self.r[0] = self.rng.randrange(1, 6)
+            yield self.write(1, self.r[0])
+        for _ in range(self.rng.randrange(20)):
+            yield self.run(1)
+        yield from self.reads(*self.rng.sample(range(32), 6), 16, 17)
+        yield self.read(0)
+
+    def tiny_phase(self):
+        yield from self.tiny_frame()
+        for _ in range(self.rng.randrange(30, 160)):
+            yield from self.poke()
+
+    def blink_phase(self):
+        """Many fields, with the cursor where it shows in each."""
+        rng = self.rng
+        yield from self.tiny_frame()
+        yield from self.set(1, self.r[0] + 1)
+        yield from self.set(6, self.r[4] + 1)
+        yield from self.set(10, rng.choice((0x40, 0x60, 0x40, 0x60, 0x00, 0x20)))
+        yield from self.set(11, 31)
+        yield from self.set(14, self.r[12])
+        yield from self.set(15, self.r[13])
+        yield from self.set(8, rng.choice((0, 0, 0x20, 0x04)))
+        yield self.reset()
+        if self.r[8] & 0x20:
+            yield self.run(1)
+        for _ in range(rng.randrange(20, 70)):
+            if self.chance(85):
+                yield self.run(self.frame_clocks())
+            elif self.chance(70):
+                yield self.run(self.frame_clocks() * rng.randrange(1, 33))
+            else:
+                yield from self.set(10, rng.choice((0x40, 0x60)))
+
+    def plain_phase(self):
+        """A frame of a plain size: 80 columns or so, runs of many lines."""
+        rng = self.rng
+        for register, value in ((0, rng.choice((39, 79, 99, 127, 255))), (1, rng.choice((40, 80, 255))),
+                                (2, rng.randrange(130)), (3, self.sync_widths()),
+                                (4, rng.choice((24, 31, 127))), (5, rng.randrange(32)),
+                                (6, rng.choice((24, 25, 127))), (7, rng.randrange(30)),
+                                (8, rng.choice((0, 0x04, 0x30))), (9, rng.choice((0, 7, 8, 31)))):
+            yield from self.set(register, value)
+        begin = self.start()
+        yield from self.set(12, begin >> 8)
+        yield from self.set(13, begin)
+        yield from self.cursor_shape()
+        yield from self.cursor_near_start()
+        yield self.reset()
+        for _ in range(rng.randrange(10, 40)):
+            line = self.r[0] + 1
+            kind = rng.random()
+            if kind < 0.35:
+                yield self.run(rng.choice((1, 2, line - 1, line, line + 1, line * (self.r[9] + 1))))
+            elif kind < 0.45:
+                yield self.run(self.frame_clocks() + rng.choice((-1, 0, 1)))
+            elif kind < 0.52:
+                yield self.run(rng.choice((65535, 65534, rng.randrange(65536))))
+            elif kind < 0.75:
+                yield from self.strobe(rng.randrange(1, 2 * line))
+            elif kind < 0.85:
+                yield self.run(rng.randrange(line * 12))
+            else:
+                yield from self.poke()
+
+    def lowered_phase(self):
+        """Registers put below the counters that run up to them."""
+        rng = self.rng
+        yield from self.tiny_frame()
+        register = rng.choice((0, 4, 5, 9, 9, 5))
+        high = {0: rng.randrange(8, 40), 4: rng.randrange(3, 12),
+                5: rng.randrange(4, 30), 9: rng.randrange(4, 30)}[register]
+        yield from self.set(register, high)
+        yield self.run(rng.randrange(self.frame_clocks() + 1))
+        if register == 5 and self.chance(60):
+            # Into the adjust lines, to lower R5 there.
+            yield self.reset()
+            inside = (self.r[0] + 1) * (self.r[4] + 1) * (self.r[9] + 1)
+            yield self.run(inside + rng.randrange((self.r[0] + 1) * high))
+        yield from self.set(register, rng.randrange(3))
+        for _ in range(rng.randrange(8, 30)):
+            line = self.r[0] + 1
+            kind = rng.random()
+            if kind < 0.5:
+                yield self.run(rng.choice((1, line, line, 31 * line, 32 * line, 256, 255, 127 * line,
+                                           128 * line * (self.r[9] + 1), rng.randrange(300))))
+            elif kind < 0.8:
+                yield from self.strobe(1)
+            else:
+                yield from self.poke()
+
+    def noise_phase(self):
+        rng = self.rng
+        for _ in range(rng.randrange(8, 50)):
+            kind = rng.random()
+            if kind < 0.30:
+                register = rng.randrange(32)
+                value = rng.randrange(256)
+                if register == 8:
+                    value &= rng.choice((0x34, 0x34, 0xFF))
+                    if value & 0xCB:
+                        yield self.select(8)
+                        yield self.write(1, value)
+                        continue
+                yield from self.set(register, value)
+            elif kind < 0.45:
+                yield from self.reads(rng.randrange(32))
+            elif kind < 0.55:
+                self.pen = rng.randrange(2)
+                yield self.frame(4, self.pen)
+            elif kind < 0.60:
+                yield self.read(0)
+            elif kind < 0.93:
+                yield self.run(rng.choice((1, 1, 1, rng.randrange(20), rng.randrange(600),
+                                           rng.randrange(3000))))
+            elif kind < 0.95:
+                yield self.run(rng.randrange(65536))
+            elif kind < 0.97:
+                yield self.reset()
+            else:
+                yield from self.refused()
+
+
+class Hostile:
+    """Lines that are no frame, or nearly none."""
+
+    def __init__(self, rng):
+        self.rng = rng
+
+    def good(self):
+        """A frame that would be accepted, to be spoilt."""
+        rng = self.rng
+        return rng.choice((
+            b"2201", b"2202040A", b"220305", b"22045A3C07", b"220500000010", b"2206",
+            b"3201", b"32029C02", b"320384", b"3204FF00", b"32050000000A", b"3206",
+            b"4501", b"4502010F", b"450301", b"450401", b"450500000007",
+        ))
+
+    def digits(self, count):
+        return bytes(self.rng.choice(b"0123456789ABCDEF") for _ in range(count))
+
+    def line(self):
+        rng = self.rng
+        good = self.good()
+        at = rng.randrange(len(good))
+        kind = rng.randrange(19)
+        if kind == 0:
+            return good.lower() if good.lower() != good else b"22020e7f"
+        if kind == 1:
+            return good + b"\r"
+        if kind == 2:
+            return good[:at] + bytes((rng.choice((0, 9, 13, 32, 47, 58, 64, 71, 96, 97, 103)),)) + good[at + 1:]
+        if kind == 3:
+            return good[:at] + bytes((rng.randrange(128, 256),)) + good[at + 1:]
+        if kind == 4:
+            return good[:at] + good[at + 1:]
+        if kind == 5:
+            return good + self.digits(1)
+        if kind == 6:
+            return good + self.digits(2)
+        if kind == 7:
+            return good[:-2]
+        if kind == 8:
+            return good + self.digits(max(0, rng.choice((30, 31, 32, 33, 34)) - len(good)))
+        if kind == 9:
+            return b""
+        if kind == 10:
+            if rng.random() < 0.9:
+                return good + b"0" * rng.randrange(40, 400)
+            return good + self.digits(rng.randrange(1000, 9000))
+        if kind == 11:
+            return rng.choice((b" ", b"")) + good + rng.choice((b" ", b"\t", b"\x00"))
+        if kind == 12:
+            chip = rng.choice((b"00", b"25", b"21", b"23", b"31", b"33", b"44", b"46", b"FF", self.digits(2)))
+            return chip + good[2:]
+        if kind == 13:
+            call = rng.choice((b"00", b"07", b"08", b"10", b"11", b"81", b"FF"))
+            return good[:2] + call + good[4:]
+        if kind == 14:
+            return rng.choice((b"4506", b"4507", b"2207", b"3200", b"2200", b"22", b"32", b"45", b"2",
+                               b"22060", b"220600", b"450600000000", b"220100", b"3201FF", b"450100",
+                               b"45040100", b"3204FFFF0F", b"2204FFFF", b"220500000001FF",
+                               b"22050001", b"32050000000", b"+22206", b"0x2206", b"-2206", b"\xc3\xa42206"))
+        if kind == 15:
+            swapped = {b"22": b"32", b"32": b"45", b"45": b"22"}[good[:2]]
+            return swapped + good[2:]
+        if kind == 16:
+            return bytes(rng.choice([byte for byte in range(256) if byte != 10])
+                         for _ in range(rng.randrange(1, 40)))
+        if kind == 17:
+            return good[:at] + b"\r" + good[at:]
+        return good + good
+
+
+def session(seed, count, max_run, chips, hostile):
+    rng = random.Random(seed)
+    makers = {"22": Story22, "32": Story32, "45": Story45}
+    weights = {"22": 40, "32": 25, "45": 35}
+    stories = [makers[chip](random.Random(f"{seed} {chip}"), max_run) for chip in chips]
+    tellings = [story.lines() for story in stories]
+    shares = [weights[chip] for chip in chips]
+    spoiler = Hostile(random.Random(f"{seed} hostile"))
+    left = 0
+    telling = None
+    for _ in range(count):
+        if rng.random() * 100 < hostile:
+            yield spoiler.line()
+            continue
+        if left == 0:
+            telling = rng.choices(tellings, shares)[0]
+            left = rng.choice((1, 2, 5, 20, 60))
+        left -= 1
+        yield next(telling)
+
+
+def main():
+    parser = argparse.ArgumentParser(description="Seeded sessions for the Snowferrule bench.")
+    parser.add_argument("seed", type=int)
+    parser.add_argument("lines", type=int)
+    parser.add_argument("--max-run", type=int, default=HIGHEST_COUNT, metavar="N",
+                        help="bound for 6522 and 6532 run counts (default 4294967295)")
+    parser.add_argument("--chip", choices=("22", "32", "45"), help="tell this chip's story alone")
+    parser.add_argument("--hostile", type=float, default=4, metavar="PERCENT",
+                        help="share of hostile lines (default 4)")
+    given = parser.parse_args()
+    chips = (given.chip,) if given.chip else ("22", "32", "45")
+    write = sys.stdout.buffer.write
+    line = None
+    for following in session(given.seed, given.lines, given.max_run, chips, given.hostile):
+        if line is not None:
+            write(line + b"\n")
+        line = following
+    if line is not None:
+        # Every fourth seed leaves out the last LF, for such a line counts too.
+        # An empty last line needs its LF to be a line at all.
+        write(line if line and given.seed % 4 == 3 else line + b"\n")
+
+
+if __name__ == "__main__":
+    main()
