@@ -57,7 +57,7 @@ moving-end {buf₀} {from} {m} {buf} j g h =
     let e : m ≡ j = omega (arith, g .within) in
     record { front = rw e (g .moved); rest = rw e (g .ahead) }
 
-drop-take : (a n : ℕ) (l : List ℕ) → drop a (take n l) ≡ take (n - a) (drop a l)
+pub drop-take : (a n : ℕ) (l : List ℕ) → drop a (take n l) ≡ take (n - a) (drop a l)
 drop-take zero n l = rw sub-zero
 drop-take (suc a) zero l = rw zero-sub
 drop-take (suc a) (suc n) [] = sym (take-nil (suc n - suc a))

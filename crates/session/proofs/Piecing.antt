@@ -6,11 +6,17 @@ use native.Mathlib.Omega.{arith}
 use lib.ListN.{length, take, drop, length-take, take-append-drop}
 use lib.Seq.{take-take, length-take-le}
 use Rattle.session.specs.Sessions.{ended, open-line, nextAll, saysAll}
-use Rattle.session.specs.Pieces.{takes, Feeds, Piece, Keeps}
+use Rattle.session.specs.Pieces.{takes, Written, Feeds, Piece, Keeps}
 use Rattle.session.specs.declared.Bench.{Bench}
 use Rattle.session.specs.declared.Fed.{Fed}
 use Rattle.session.proofs.Taking.{room-for-all, used-within}
 use Rattle.session.specs.Demands
+
+-- what was written stands within the buffer
+pub written-within : {before now x : List ℕ} {made : ℕ} → Written before now made x → made ≤ length now
+written-within {before} {now} {x} {made} w =
+    let e : length (take made now) ≡ made = ap length (w .text) ∙ sym (w .size) in
+    omega (arith, e, length-take made now)
 
 module _ (b : Bench) (buf buf′ out out′ : List ℕ) (kept n k : ℕ) (fed : Fed)
     (h : kept ≤ n) (l : n ≤ length buf) (room : 3 * length buf + 13 ≤ length out)
@@ -29,11 +35,6 @@ module _ (b : Bench) (buf buf′ out out′ : List ℕ) (kept n k : ℕ) (fed : 
   small : k ≤ 33
   small = omega (arith, g .moved within l .0)
 
-  written : fed .made ≤ length out′
-  written =
-      let e : length (take (fed .made) out′) ≡ fed .made = ap length (f .out .text) ∙ sym (f .out .size) in
-      omega (arith, e, length-take (fed .made) out′)
-
   pieced : Piece b buf buf′ out′ kept n k fed
   pieced =
       let j : take kept buf ++ drop kept (take n buf) ≡ take n buf =
@@ -44,7 +45,7 @@ module _ (b : Bench) (buf buf′ out out′ : List ℕ) (kept n k : ℕ) (fed : 
         next = rw j (λ i. record { bench = (f .bench ∙ all .1) i; kept = o i });
         out = rw j (f .out .text ∙ all .0);
         small = small;
-        made = written;
+        made = written-within (f .out);
       }
 
 pub feed-and-keep : Demands.Feed-and-keep
