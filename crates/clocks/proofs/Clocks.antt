@@ -1,5 +1,6 @@
 -- n turns of a rule: of a sum, of a rule that moves one part of a record; and the count below a count at any width.
 use mathlib.Core.Path.{_≡_, refl, sym, ap, ap₂, _∙_}
+use mathlib.Core.Bool.{Bool, true, false}
 use Prim.Native.Nat.{ℕ, zero, suc, _+_, _%_, _<_}
 use native.Mathlib.Nat.{add-zero, add-suc, mod-eq-of-lt, mod-self}
 use native.Mathlib.Decide.{decLt}
@@ -40,6 +41,27 @@ module _ {S P : Type 0} (f : P → P) (get : S → P) (put : S → P → S) wher
     unfolding after
     part-after zero s = sym (L .put-get s)
     part-after (suc n) s = ap₂ put (part-after n s) (ap f (get-after n s)) ∙ L .put-put s _ _
+
+-- calls of a rule that leave the record where a test of it fails: n of them come to what one call for n turns leaves
+module _ {A : Type 0} (well : A → Bool) (f call : A → A)
+    (accepts : (x : A) → well x ≡ true → call x ≡ f x) (refuses : (x : A) → well x ≡ false → call x ≡ x)
+    (keeps : (n : ℕ) (x : A) → well x ≡ true → well (after n f x) ≡ true) where
+  well-calls : (n : ℕ) (x : A) → well x ≡ true → after n call x ≡ after n f x
+  unfolding after
+  well-calls zero x w = refl
+  well-calls (suc n) x w = ap call (well-calls n x w) ∙ accepts (after n f x) (keeps n x w)
+
+  ill-calls : (n : ℕ) (x : A) → well x ≡ false → after n call x ≡ x
+  unfolding after
+  ill-calls zero x w = refl
+  ill-calls (suc n) x w = ap call (ill-calls n x w) ∙ refuses x w
+
+  pub run-calls : (n : ℕ) (x y : A) → (well x ≡ true → y ≡ after n f x) → (well x ≡ false → y ≡ x) → y ≡ after n call x
+  run-calls n x y run none = go (well x) refl
+    where
+      go : (b : Bool) → well x ≡ b → y ≡ after n call x
+      go true w = run w ∙ sym (well-calls n x w)
+      go false w = none w ∙ sym (ill-calls n x w)
 
 -- a wrapping subtraction of one gives the count below
 pub lowered : (w r c : ℕ) → r < w → (r + 1) % w ≡ c → r ≡ lower w c

@@ -1,6 +1,7 @@
 -- What a forecast says of every number of clocks settles it.
 use mathlib.Core.Path.{_≡_, refl, sym, ap, _∙_}
 use mathlib.Core.Bool.{Bool, true, false, _||_, _&&_, or-true, or-false, and-true, and-false, true≢false, false≢true}
+use mathlib.Core.Logic.{_↔_}
 use Prim.Native.Nat.{ℕ, zero, suc, _+_, _<_, _≤_}
 use native.Mathlib.Nat.{le-refl}
 use native.Mathlib.Decide.{decLt, decLe}
@@ -29,6 +30,17 @@ comes-one (In x) (In y) e =
     let a = leb-true y x (sym (e x) ∙ comes-at x) in
     let b = leb-true x y (e y ∙ comes-at y) in
     ap In (omega arith)
+
+-- a line that a forecast tells of stands first at its number, and never where it says never
+module _ (line : ℕ → Bool) (f : Forecast) (told : (k : ℕ) → line k ≡ comes f k) where
+  pub told-least : (d : ℕ) → f ≡ In d → (line d ≡ true) × ((j : ℕ) → j < d → line j ≡ false)
+  told-least d e =
+      let said : (j : ℕ) → line j ≡ comes (In d) j = λ j. told j ∙ ap (λ (g : Forecast). comes g j) e in
+      (said d ∙ comes-at d, λ j h. said j ∙ comes-not-before d j h)
+
+  pub told-never : (f ≡ Never) ↔ ((j : ℕ) → line j ≡ false)
+  told-never =
+      (λ e j. told j ∙ ap (λ (g : Forecast). comes g j) e, λ h. comes-one f Never (λ k. sym (told k) ∙ h k))
 
 -- the sooner forecast has come as soon as one of the two has
 pub sooner-comes : (f g : Forecast) (k : ℕ) → comes (soonerOf f g) k ≡ (comes f k || comes g k)

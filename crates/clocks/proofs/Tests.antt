@@ -20,6 +20,11 @@ pub on-false : {A : Type 0} (t : Bool) (x y : A) → t ≡ false → (if t then 
 on-false true x y e = absurd (true≢false e)
 on-false false x y e = refl
 
+-- a test that cannot hold fails
+pub fails : (t : Bool) → (t ≡ true → ⊥) → t ≡ false
+fails true n = absurd (n refl)
+fails false n = refl
+
 -- what holds of both values holds of the one that is picked
 pub picked : {A : Type 0} (P : A → Type 0) (t : Bool) {x y : A} → P x → P y → P (if t then x else y)
 picked P true p q = p

@@ -3,14 +3,17 @@ use mathlib.Core.Path.{_≡_, refl, sym, ap, _∙_}
 use mathlib.Core.Bool.{Bool, true, false}
 use Prim.Native.Nat.{ℕ, zero, suc}
 use native.Mathlib.Omega.{arith}
+use lib.Dec.{ltb}
 use borrow.Author.Tests.{le-ltb}
 use Rattle.clocks.specs.Clocks.{if_then_else_, after}
-use Rattle.clocks.proofs.Tests.{on-true, on-false}
+use Rattle.clocks.proofs.Clocks.{run-calls}
+use Rattle.clocks.proofs.Tests.{on-true, on-false, picked}
 use Rattle.crtc6545.specs.Record.{wellFormed, powerUp, resetOf}
+use Rattle.crtc6545.specs.Access.{refusedForm}
 use Rattle.crtc6545.specs.Clock.{clockOf}
 use Rattle.crtc6545.specs.Answers.{accepted, refused, firstRefusal, readingOf}
 use Rattle.crtc6545.specs.Demands
-use Rattle.crtc6545.specs.Demands.{Call, clock, run, Typed, refusalOf, givesOf, leavesOf, answerOf, at-power-up, by}
+use Rattle.crtc6545.specs.Demands.{Call, reset, read, write, pins, clock, run, Typed, refusalOf, givesOf, leavesOf, answerOf, at-power-up, by}
 use Rattle.crtc6545.specs.declared.Crtc.{Crtc}
 use Rattle.crtc6545.specs.declared.Answer.{Answer}
 use Rattle.crtc6545.proofs.Judged.{accepts, refuses}
@@ -53,6 +56,28 @@ module _ (c : Call) (v : Crtc) (P : Answer → Type 0) where
           let z : refusalOf c v ≡ 0 → ⊥ = λ q. omega (arith, e, q) in
           rw (refuses-operands c v w z) (operands w z)
 
+-- no operand asks for 1
+Other : ℕ → Type 0
+Other n = n ≡ 1 → ⊥
+
+asks-other : (c : Call) (v : Crtc) → Other (refusalOf c v)
+unfolding Other
+asks-other reset v = λ e. omega (arith, e)
+asks-other (read a) v = picked Other (ltb 1 a) (λ e. omega (arith, e)) (λ e. omega (arith, e))
+asks-other (write a x) v =
+    picked Other (ltb 1 a) (λ e. omega (arith, e)) (picked Other (refusedForm a x v) (λ e. omega (arith, e)) (λ e. omega (arith, e)))
+asks-other (pins x) v = picked Other (ltb 1 x) (λ e. omega (arith, e)) (λ e. omega (arith, e))
+asks-other clock v = λ e. omega (arith, e)
+asks-other (run n) v = picked Other (ltb 65535 n) (λ e. omega (arith, e)) (λ e. omega (arith, e))
+
+pub one-only-ill : Demands.One-only-ill
+unfolding Other accepted refused
+one-only-ill c v =
+    by-refusal c v (λ r. r .refusal ≡ 1 → wellFormed v ≡ false)
+    (λ w e. w)
+    (λ w z e. absurd (asks-other c v e))
+    (λ w z e. absurd (omega (arith, e)))
+
 pub refused-leaves : Demands.Refused-leaves
 unfolding accepted refused
 refused-leaves c v =
@@ -89,10 +114,7 @@ pub reached-well : Demands.Reached-well
 reached-well v at-power-up = power-up-formed
 reached-well v (by {v = u} c t r) = kept c u t (reached-well u r)
 
--- a refused clock leaves the record, an accepted one clocks it
-clock-call : Crtc → Crtc
-clock-call u = answerOf clock u .crtc
-
+-- what a call leaves of a record that is well formed, and of one that is not
 accepted-leaves : (c : Call) (v : Crtc) → wellFormed v ≡ true → refusalOf c v ≡ 0 → answerOf c v .crtc ≡ leavesOf c v
 unfolding accepted
 accepted-leaves c v w z = ap (λ (r : Answer). r .crtc) (accepts-well c v w z)
@@ -101,27 +123,14 @@ ill-leaves : (c : Call) (v : Crtc) → wellFormed v ≡ false → answerOf c v .
 unfolding refused
 ill-leaves c v w = ap (λ (r : Answer). r .crtc) (refuses-ill c v w)
 
-well-clocks : (n : ℕ) (v : Crtc) → wellFormed v ≡ true → after n clock-call v ≡ after n clockOf v
-unfolding after clock-call
-well-clocks zero v w = refl
-well-clocks (suc n) v w =
-    ap clock-call (well-clocks n v w)
-    ∙ accepted-leaves clock (after n clockOf v) (well _ (run-kept n v (formed v w))) refl
-
-ill-clocks : (n : ℕ) (v : Crtc) → wellFormed v ≡ false → after n clock-call v ≡ v
-unfolding after clock-call
-ill-clocks zero v w = refl
-ill-clocks (suc n) v w = ap clock-call (ill-clocks n v w) ∙ ill-leaves clock v w
-
 pub run-single : Demands.Run-single
-unfolding clock-call
-run-single n v h = go (wellFormed v) refl
-  where
-    go : (b : Bool) → wellFormed v ≡ b → answerOf (run n) v .crtc ≡ after n (λ u. answerOf clock u .crtc) v
-    go true w =
-        accepted-leaves (run n) v w (ap (λ (b : Bool). if b then 6 else 0) (le-ltb 65535 n h))
-        ∙ sym (well-clocks n v w)
-    go false w = ill-leaves (run n) v w ∙ sym (ill-clocks n v w)
+run-single n v h =
+    run-calls wellFormed clockOf (λ u. answerOf clock u .crtc)
+    (λ u w. accepted-leaves clock u w refl)
+    (λ u w. ill-leaves clock u w)
+    (λ m u w. well _ (run-kept m u (formed u w))) n v (answerOf (run n) v .crtc)
+    (λ w. accepted-leaves (run n) v w (ap (λ (b : Bool). if b then 6 else 0) (le-ltb 65535 n h)))
+    (λ w. ill-leaves (run n) v w)
 
 pub run-of-none : Demands.Run-of-none
 unfolding after

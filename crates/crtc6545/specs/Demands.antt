@@ -72,6 +72,10 @@ pub data Reached : Crtc → Type 0 where
 abbrev pub Refuses-ill : Type 0
 Refuses-ill = (c : Call) (v : Crtc) → wellFormed v ≡ false → answerOf c v ≡ refused 1 v
 
+-- and no other is
+abbrev pub One-only-ill : Type 0
+One-only-ill = (c : Call) (v : Crtc) → answerOf c v .refusal ≡ 1 → wellFormed v ≡ false
+
 -- a call of a well-formed record is refused with the number that its operands ask for, and accepted where they ask for none
 abbrev pub Refuses-operands : Type 0
 Refuses-operands =

@@ -8,8 +8,9 @@ use Rattle.clocks.specs.Clocks.{if_then_else_, after}
 use Rattle.clocks.specs.Forecasts.{comes}
 use Rattle.clocks.specs.declared.Forecast.{Forecast}
 use Rattle.clocks.specs.declared.Forecast.the-variants.{Never, In}
-use Rattle.clocks.proofs.Tests.{both, either, picked}
-use Rattle.clocks.proofs.Forecasts.{comes-one, comes-at, comes-not-before, AtMost, most-gated, most-in}
+use Rattle.clocks.proofs.Clocks.{run-calls}
+use Rattle.clocks.proofs.Tests.{both, either, picked, fails}
+use Rattle.clocks.proofs.Forecasts.{comes-one, told-least, told-never, AtMost, most-gated, most-in}
 use Rattle.clocks.proofs.Bits.{bit-merge}
 use Rattle.riot6532.specs.Record.{wellFormed, powerUp, resetOf}
 use Rattle.riot6532.specs.Ports.{irqOf}
@@ -36,6 +37,9 @@ accepts-as c v w = accepts v (givesOf c v) (leavesOf c v) w
 
 pub accepts-well : Demands.Accepts-well
 accepts-well c v w = ap (λ (r : Answer). r .refusal) (accepts-as c v w)
+
+pub one-only-ill : Demands.One-only-ill
+one-only-ill c v e = fails (wellFormed v) (λ w. omega (arith, e, accepts-well c v w))
 
 pub power-up-well : Demands.Power-up-well
 power-up-well = refl
@@ -73,23 +77,15 @@ line-exact c v r =
     rw (accepts-as c v (reached-well v r)) (raised (io .timer .flag) (io .timer .enable) (io .pa7 .flag) (io .pa7 .enable))
 
 module _ (v : Riot) (r : Outlook) (w : wellFormed v ≡ true) (f : Foretold v r) where
-  -- the line after j clocks, where the forecast is g
-  said : (g : Forecast) → r .forecast ≡ g → (j : ℕ) → irqOf (after j clockOf v .io) ≡ comes g j
-  said g e j = f .told w j ∙ ap (λ (g : Forecast). comes g j) e
-
   -- the forecast is the closed form
   closed : r .forecast ≡ forecastOf (v .io)
   closed = comes-one (r .forecast) (forecastOf (v .io)) (λ k. sym (f .told w k) ∙ line-after v w k)
 
 pub forecast-least : Demands.Forecast-least
-forecast-least v r d reached f e =
-    let w = reached-well v reached in
-    (said v r w f (In d) e d ∙ comes-at d, λ j h. said v r w f (In d) e j ∙ comes-not-before d j h)
+forecast-least v r d reached f e = told-least (λ k. irqOf (after k clockOf v .io)) (r .forecast) (f .told (reached-well v reached)) d e
 
 pub forecast-never : Demands.Forecast-never
-forecast-never v r reached f =
-    let w = reached-well v reached in
-    (λ e j. said v r w f Never e j, λ h. comes-one (r .forecast) Never (λ k. sym (f .told w k) ∙ h k))
+forecast-never v r reached f = told-never (λ k. irqOf (after k clockOf v .io)) (r .forecast) (f .told (reached-well v reached))
 
 -- the forecast is at most one more than the counts that its timer can stand above zero
 most-counts : (n : ℕ) (v : Riot) (r : Outlook) → wellFormed v ≡ true → Foretold v r → countsOf (v .io .timer) < n → AtMost n (r .forecast)
@@ -113,29 +109,14 @@ forecast-bound v r d reached f e =
     most-in 261121 d (r .forecast)
     (most-counts 261121 v r (reached-well v reached) f (counts-most (v .io .timer) (reached-sound v reached))) e
 
--- a refused clock leaves the record, an accepted one clocks it
-clock-call : Riot → Riot
-clock-call u = answerOf clock u .riot
-
-well-clocks : (n : ℕ) (v : Riot) → wellFormed v ≡ true → after n clock-call v ≡ after n clockOf v
-unfolding after clock-call
-well-clocks zero v w = refl
-well-clocks (suc n) v w =
-    ap clock-call (well-clocks n v w)
-    ∙ ap (λ (r : Answer). r .riot) (accepts-as clock (after n clockOf v) (run-well n v w))
-
-ill-clocks : (n : ℕ) (v : Riot) → wellFormed v ≡ false → after n clock-call v ≡ v
-unfolding after clock-call
-ill-clocks zero v w = refl
-ill-clocks (suc n) v w = ap clock-call (ill-clocks n v w) ∙ ap (λ (r : Answer). r .riot) (refuses-ill clock v w)
-
 pub run-single : Demands.Run-single
-unfolding clock-call
-run-single n v = go (wellFormed v) refl
-  where
-    go : (b : Bool) → wellFormed v ≡ b → answerOf (run n) v .riot ≡ after n (λ u. answerOf clock u .riot) v
-    go true w = ap (λ (r : Answer). r .riot) (accepts-as (run n) v w) ∙ sym (well-clocks n v w)
-    go false w = ap (λ (r : Answer). r .riot) (refuses-ill (run n) v w) ∙ sym (ill-clocks n v w)
+run-single n v =
+    run-calls wellFormed clockOf (λ u. answerOf clock u .riot)
+    (λ u w. ap (λ (r : Answer). r .riot) (accepts-as clock u w))
+    (λ u w. ap (λ (r : Answer). r .riot) (refuses-ill clock u w))
+    run-well n v (answerOf (run n) v .riot)
+    (λ w. ap (λ (r : Answer). r .riot) (accepts-as (run n) v w))
+    (λ w. ap (λ (r : Answer). r .riot) (refuses-ill (run n) v w))
 
 pub forecast-one : Demands.Forecast-one
 forecast-one v r s f g = go (wellFormed v) refl

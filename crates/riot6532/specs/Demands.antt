@@ -70,6 +70,10 @@ pub data Reached : Riot → Type 0 where
 abbrev pub Refuses-ill : Type 0
 Refuses-ill = (c : Call) (v : Riot) → wellFormed v ≡ false → answerOf c v ≡ refused 1 v
 
+-- and no other is
+abbrev pub One-only-ill : Type 0
+One-only-ill = (c : Call) (v : Riot) → answerOf c v .refusal ≡ 1 → wellFormed v ≡ false
+
 abbrev pub Accepts-well : Type 0
 Accepts-well = (c : Call) (v : Riot) → wellFormed v ≡ true → answerOf c v .refusal ≡ 0
 

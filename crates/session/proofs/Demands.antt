@@ -3,6 +3,8 @@ use Rattle.session.specs.Demands
 use Rattle.session.proofs.Cuts as Cuts
 use Rattle.session.proofs.Piecing as Piecing
 use Rattle.session.proofs.Taking as Taking
+use Rattle.session.proofs.Reaching as Reaching
+use Rattle.session.proofs.Answering as Answering
 
 pub any-cut : Demands.Any-cut
 any-cut = Cuts.any-cut
@@ -18,3 +20,12 @@ room-for-all = Taking.room-for-all
 
 pub feed-and-keep : Demands.Feed-and-keep
 feed-and-keep = Piecing.feed-and-keep
+
+pub chips-reached : Demands.Chips-reached
+chips-reached = Reaching.chips-reached
+
+pub never-1 : Demands.Never-1
+never-1 = Reaching.never-1
+
+pub line-for-line : Demands.Line-for-line
+line-for-line = Answering.line-for-line

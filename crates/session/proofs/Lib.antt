@@ -4,4 +4,6 @@ pub mod Keeping
 pub mod Cuts
 pub mod Taking
 pub mod Piecing
+pub mod Reaching
+pub mod Answering
 pub mod Demands

@@ -3,7 +3,13 @@ use mathlib.Core.Path.{_≡_}
 use mathlib.Core.List.{List, [], _++_}
 use Prim.Native.Nat.{ℕ, _+_, _*_, _<_, _≤_}
 use lib.ListN.{length, take, drop}
-use Rattle.session.specs.Sessions.{ended, open-line, nextAll, saysAll, session}
+use Rattle.frames.specs.Frames.{frameOf}
+use Rattle.frames.specs.declared.Reply.the-variants.{Refused}
+use Rattle.via6522.specs.Demands as Calls22
+use Rattle.riot6532.specs.Demands as Calls32
+use Rattle.crtc6545.specs.Demands as Calls45
+use Rattle.session.specs.Steps.{powerUp, stepOf}
+use Rattle.session.specs.Sessions.{ended, open-line, linesOf, nextAll, saysAll, session}
 use Rattle.session.specs.Pieces.{takes, Feeds, Keeps, at-start, written-for, joined, Piece}
 use Rattle.session.specs.declared.Bench.{Bench}
 use Rattle.session.specs.declared.Fed.{Fed}
@@ -41,3 +47,17 @@ Feed-and-keep =
     (b : Bench) (buf buf′ out out′ : List ℕ) (kept n k : ℕ) (fed : Fed)
     → kept ≤ n → n ≤ length buf → 3 * length buf + 13 ≤ length out
     → Feeds b (take n buf) out out′ fed → Keeps buf buf′ (fed .used) n k → Piece b buf buf′ out′ kept n k fed
+
+-- every chip of the bench is one that calls from power-up reach, whatever lines came: what the demands say of such chips holds in sessions
+abbrev pub Chips-reached : Type 0
+Chips-reached =
+    (ls : List (List ℕ))
+    → Calls22.Reached (nextAll powerUp ls .via) × Calls32.Reached (nextAll powerUp ls .riot) × Calls45.Reached (nextAll powerUp ls .crtc)
+
+-- so refusal 1 is given to no line
+abbrev pub Never-1 : Type 0
+Never-1 = (ls : List (List ℕ)) (l : List ℕ) → stepOf (nextAll powerUp ls) (frameOf l) .reply ≡ Refused 1 → ⊥
+
+-- one line is written for each line of a file, and nothing after the last one's LF
+abbrev pub Line-for-line : Type 0
+Line-for-line = (s : List ℕ) → (length (ended [] (session s)) ≡ length (linesOf s)) × (open-line [] (session s) ≡ [])

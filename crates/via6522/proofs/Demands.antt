@@ -3,17 +3,18 @@ use mathlib.Core.Path.{_≡_, refl, sym, ap, _∙_}
 use mathlib.Core.Bool.{Bool, true, false, not, _&&_, _||_, false≢true}
 use mathlib.Core.Logic.{_↔_}
 use Prim.Native.Nat.{ℕ, zero, suc, _+_, _<_, _≤_}
-use native.Mathlib.Decide.{decLt}
+use native.Mathlib.Decide.{decLt, ℕ-discrete}
 use native.Mathlib.Omega.{arith}
-use lib.Dec.{eqb}
+use lib.Dec.{eqb, ltb}
 use borrow.Author.Tests.{le-ltb}
 use Rattle.clocks.specs.Clocks.{if_then_else_, after}
 use Rattle.clocks.specs.Bits.{bit, merge, withBit, shares}
 use Rattle.clocks.specs.Forecasts.{comes, soonerOf}
 use Rattle.clocks.specs.declared.Forecast.{Forecast}
 use Rattle.clocks.specs.declared.Forecast.the-variants.{Never, In}
-use Rattle.clocks.proofs.Tests.{picked}
-use Rattle.clocks.proofs.Forecasts.{comes-one, comes-at, comes-not-before, AtMost, most-sooner, most-gated, most-in}
+use Rattle.clocks.proofs.Clocks.{run-calls}
+use Rattle.clocks.proofs.Tests.{picked, fails}
+use Rattle.clocks.proofs.Forecasts.{comes-one, told-least, told-never, AtMost, most-sooner, most-gated, most-in}
 use Rattle.clocks.proofs.Bits.{bit-high, bit-merge, bit-with, shares-found, shares-by}
 use Rattle.timers.proofs.Firsts as First
 use Rattle.timers.proofs.Seconds as Second
@@ -24,6 +25,7 @@ use Rattle.via6522.specs.Ports.{linesA, linesB}
 use Rattle.via6522.specs.Clock.{timersOf, clockOf}
 use Rattle.via6522.specs.Closed.{stands, soonest}
 use Rattle.via6522.specs.Answers.{refusal, readRefusal, writeRefusal, pinsRefusal, refused, Foretold}
+use Rattle.via6522.specs.Access.{refusedForm}
 use Rattle.via6522.specs.Demands
 use Rattle.via6522.specs.Demands.{Call, reset, read, write, pins, clock, run, forecast, meets, leavesOf, answerOf, Reached}
 use Rattle.via6522.specs.declared.Via.{Via}
@@ -56,6 +58,34 @@ pub refuses-ill : Demands.Refuses-ill
 refuses-ill c v w =
     let e = meets-ill c v w in
     refuses c v (λ z. let q : _≡_ {A = ℕ} 1 0 = sym e ∙ z in omega arith) ∙ ap (λ (n : ℕ). refused n v) e
+
+-- a well-formed one meets another number than 1
+Other : ℕ → Type 0
+Other n = n ≡ 1 → ⊥
+
+meets-other : (c : Call) (v : Via) → wellFormed v ≡ true → Other (meets c v)
+unfolding Other refusal readRefusal writeRefusal pinsRefusal
+meets-other reset v w = rw w (λ e. omega (arith, e))
+meets-other (read r) v w = rw w (picked Other (ltb 15 r) (λ e. omega (arith, e)) (λ e. omega (arith, e)))
+meets-other (write r x) v w =
+    rw w
+    (picked Other (ltb 15 r) (λ e. omega (arith, e)) (picked Other (refusedForm r x) (λ e. omega (arith, e)) (λ e. omega (arith, e))))
+meets-other (pins pa pb control) v w = rw w (picked Other (ltb 15 control) (λ e. omega (arith, e)) (λ e. omega (arith, e)))
+meets-other clock v w = rw w (λ e. omega (arith, e))
+meets-other (run n) v w = rw w (λ e. omega (arith, e))
+meets-other forecast v w = rw w (λ e. omega (arith, e))
+
+-- an answer's refusal is the number that the call meets
+answers-met : (c : Call) (v : Via) → answerOf c v .refusal ≡ meets c v
+answers-met c v = go (ℕ-discrete (meets c v) 0)
+  where
+    go : Dec (meets c v ≡ 0) → answerOf c v .refusal ≡ meets c v
+    go (yes e) = ap (λ (r : Answer). r .refusal) (accepts c v e) ∙ sym e
+    go (no e) = ap (λ (r : Answer). r .refusal) (refuses c v e)
+
+pub one-only-ill : Demands.One-only-ill
+unfolding Other
+one-only-ill c v e = fails (wellFormed v) (λ w. meets-other c v w (sym (answers-met c v) ∙ e))
 
 -- a well-formed one with operands that are allowed meets none
 meets-none : (c : Call) (v : Via) → wellFormed v ≡ true → Demands.Allowed c → meets c v ≡ 0
@@ -125,10 +155,6 @@ line-exact c v t r a =
     rw (accepts c v e) (raised (leavesOf c v) (leaves-formed c v e (reached-formed v r)))
 
 module _ (v : Via) (r : Outlook) (w : wellFormed v ≡ true) (f : Foretold v r) where
-  -- the line after j clocks, where the forecast is g
-  said : (g : Forecast) → r .forecast ≡ g → (j : ℕ) → irqOf (after j clockOf v) ≡ comes g j
-  said g e j = f .told w j ∙ ap (λ (g : Forecast). comes g j) e
-
   -- the forecast in closed form
   closed : r .forecast ≡ soonest v (First.dueOf (timersOf v .t1)) (Second.dueOf (timersOf v .t2))
   closed =
@@ -137,14 +163,10 @@ module _ (v : Via) (r : Outlook) (w : wellFormed v ≡ true) (f : Foretold v r) 
       ∙ line-after v (First.dueOf (timersOf v .t1)) (Second.dueOf (timersOf v .t2)) (First.flag-due (timersOf v .t1)) (Second.flag-due (timersOf v .t2)) k)
 
 pub forecast-least : Demands.Forecast-least
-forecast-least v r d reached f e =
-    let w = reached-well v reached in
-    (said v r w f (In d) e d ∙ comes-at d, λ j h. said v r w f (In d) e j ∙ comes-not-before d j h)
+forecast-least v r d reached f e = told-least (λ k. irqOf (after k clockOf v)) (r .forecast) (f .told (reached-well v reached)) d e
 
 pub forecast-never : Demands.Forecast-never
-forecast-never v r reached f =
-    let w = reached-well v reached in
-    (λ e j. said v r w f Never e j, λ h. comes-one (r .forecast) Never (λ k. sym (f .told w k) ∙ h k))
+forecast-never v r reached f = told-never (λ k. irqOf (after k clockOf v)) (r .forecast) (f .told (reached-well v reached))
 
 -- no record in its ranges has the line come later than after 65,537 clocks
 pub forecast-most : (v : Via) (r : Outlook) → Ranged v → wellFormed v ≡ true → Foretold v r → AtMost 65537 (r .forecast)
@@ -184,29 +206,14 @@ pub forecast-bound : Demands.Forecast-bound
 forecast-bound v r d reached f e =
     most-in 65537 d (r .forecast) (forecast-most v r (reached-ranged v reached) (reached-well v reached) f) e
 
--- a refused clock leaves the record, an accepted one clocks it
-clock-call : Via → Via
-clock-call u = answerOf clock u .via
-
-well-clocks : (n : ℕ) (v : Via) → wellFormed v ≡ true → after n clock-call v ≡ after n clockOf v
-unfolding after clock-call
-well-clocks zero v w = refl
-well-clocks (suc n) v w =
-    ap clock-call (well-clocks n v w)
-    ∙ ap (λ (r : Answer). r .via) (accepts clock (after n clockOf v) (well-none (after n clockOf v) (run-formed n v w)))
-
-ill-clocks : (n : ℕ) (v : Via) → wellFormed v ≡ false → after n clock-call v ≡ v
-unfolding after clock-call
-ill-clocks zero v w = refl
-ill-clocks (suc n) v w = ap clock-call (ill-clocks n v w) ∙ ap (λ (r : Answer). r .via) (refuses-ill clock v w)
-
 pub run-single : Demands.Run-single
-unfolding clock-call
-run-single n v = go (wellFormed v) refl
-  where
-    go : (b : Bool) → wellFormed v ≡ b → answerOf (run n) v .via ≡ after n (λ u. answerOf clock u .via) v
-    go true w = ap (λ (r : Answer). r .via) (accepts (run n) v (well-none v w)) ∙ sym (well-clocks n v w)
-    go false w = ap (λ (r : Answer). r .via) (refuses-ill (run n) v w) ∙ sym (ill-clocks n v w)
+run-single n v =
+    run-calls wellFormed clockOf (λ u. answerOf clock u .via)
+    (λ u w. ap (λ (r : Answer). r .via) (accepts clock u (well-none u w)))
+    (λ u w. ap (λ (r : Answer). r .via) (refuses-ill clock u w))
+    run-formed n v (answerOf (run n) v .via)
+    (λ w. ap (λ (r : Answer). r .via) (accepts (run n) v (well-none v w)))
+    (λ w. ap (λ (r : Answer). r .via) (refuses-ill (run n) v w))
 
 pub forecast-one : Demands.Forecast-one
 forecast-one v r s f g = go (wellFormed v) refl

@@ -83,6 +83,10 @@ Refused-leaves = (c : Call) (v : Via) → (answerOf c v .refusal ≡ 0 → ⊥) 
 abbrev pub Refuses-ill : Type 0
 Refuses-ill = (c : Call) (v : Via) → wellFormed v ≡ false → answerOf c v ≡ refused 1 v
 
+-- and no other is
+abbrev pub One-only-ill : Type 0
+One-only-ill = (c : Call) (v : Via) → answerOf c v .refusal ≡ 1 → wellFormed v ≡ false
+
 -- the operands name a register that there is, pick no mode that is left out, and give four control levels
 abbrev pub Allowed : Call → Type 0
 Allowed reset = Unit {0}

@@ -1,7 +1,8 @@
 use Prim.Native.Nat.{ℕ, _+_}
 use borrow.Author.Needs.{needs}
 use lib.Dec.{leb}
-use mathlib.Core.Path.{_∙_, ap, sym}
+use mathlib.Core.Path.{_≡_, _∙_, ap, sym}
+use mathlib.Core.Bool.{true, false, _||_}
 use Rattle.timers.proofs.Firsts.{flag-due}
 use Rattle.timers.proofs.T1.due.Statement.{statement}
 use Rattle.timers.proofs.T1.due.Tie as tie
@@ -11,12 +12,17 @@ returns c = λ k. flag-due (c .before .args .self) k ∙ rw (c .if1 .taken)
 
 returns-2 : tie.Need-returns-2
 returns-2 c = λ k.
-    flag-due (c .before .before .before .before .args .self) k
-    ∙ rw (c .before .before .before .if1 .left, c .before .if2 .taken)
+    let t = c .before .before .before .before .args .self in
+    let due : (t .free || t .armed) ≡ true = c .before .if2 .taken in
+    flag-due t k
+    ∙ rw (c .before .before .before .if1 .left, due)
     (ap (λ (d : ℕ). leb (d + 1) k) (sym (c .top .ensures .0)))
 
 returns-3 : tie.Need-returns-3
-returns-3 c = λ k. flag-due (c .before .before .before .args .self) k ∙ rw (c .before .before .if1 .left, c .if2 .left)
+returns-3 c = λ k.
+    let t = c .before .before .before .args .self in
+    let idle : (t .free || t .armed) ≡ false = c .if2 .left in
+    flag-due t k ∙ rw (c .before .before .if1 .left, idle)
 
 pub due-spec : {M : Type 1} → statement M
 due-spec = tie.close (tie.spec returns (λ c κs. search needs) (λ c. search needs) returns-2 returns-3)

@@ -1,0 +1,5 @@
+pub mod Tests
+pub mod On22
+pub mod On32
+pub mod On45
+pub mod Demands
