@@ -1,0 +1,581 @@
+#!/usr/bin/env python3
+"""Writes the stored session, crates/bench/stdin, to standard output.
+
+    stored.py > ../../crates/bench/stdin
+
+tests/stored --make does that, and has the reference write the answers. The
+same bytes come out each time. The session begins with document 01's worked
+one and goes on rule by rule: every kind of frame, every refusal with each of
+its causes, what is easy to get wrong, the twelve marked cases, lines that are
+no frame, each register of each chip, the longest runs. Its last part is made
+by sessions.py. After a call that changes something come calls that show it,
+for a bench that gets the rule wrong has to answer one of them differently.
+
+The longest runs are few: the reference also answers this session one clock at
+a time, and one such run of the 6522 alone takes it some ten seconds.
+"""
+
+import sys
+
+sys.dont_write_bytecode = True
+import sessions  # noqa: E402 (no cache of it is to be left in docs/src)
+
+VIA, RIOT, CRTC = 0x22, 0x32, 0x45
+LONGEST = 0xFFFFFFFF
+
+
+# ------------------------------------------------------------------- frames
+
+def frame(*data):
+    return bytes(data).hex().upper()
+
+
+def reset(chip):
+    return frame(chip, 1)
+
+
+def write(chip, address, value):
+    return frame(chip, 2, address, value)
+
+
+def read(chip, address):
+    return frame(chip, 3, address)
+
+
+def pins(chip, *levels):
+    return frame(chip, 4, *levels)
+
+
+def run(chip, clocks):
+    return frame(chip, 5, *clocks.to_bytes(4, "big"))
+
+
+def forecast(chip):
+    return frame(chip, 6)
+
+
+def reads(chip, *addresses):
+    return [read(chip, address) for address in addresses]
+
+
+# The 6522's registers by document 01's names.
+PORT_B, PORT_A, DDRB, DDRA, T1_LOW, T1_HIGH, LATCH_LOW, LATCH_HIGH = range(8)
+T2_LOW, T2_HIGH, SR, ACR, PCR, IFR, IER, PORT_A_QUIET = range(8, 16)
+
+
+def load_t1(value):
+    return [write(VIA, T1_LOW, value & 255), write(VIA, T1_HIGH, value >> 8)]
+
+
+def load_t2(value):
+    return [write(VIA, T2_LOW, value & 255), write(VIA, T2_HIGH, value >> 8)]
+
+
+def look_via():
+    """Everything that can be seen of the 6522 without touching a flag."""
+    yield from reads(VIA, DDRB, DDRA, T1_HIGH, LATCH_LOW, LATCH_HIGH, T2_HIGH, SR, ACR, PCR, IFR, IER,
+                     PORT_A_QUIET)
+    yield forecast(VIA)
+
+
+def clean_via(acr=0, pcr=0, enables=0x7F):
+    """The 6522 after a reset with all outside levels high, no flag set, and these modes."""
+    yield reset(VIA)
+    yield pins(VIA, 0xFF, 0xFF, 0x0F)
+    yield write(VIA, ACR, acr)
+    yield write(VIA, PCR, pcr)
+    yield write(VIA, IFR, 0x7F)
+    yield write(VIA, IER, 0x80 | enables)
+
+
+# The 6532's I/O addresses.
+TIMER, TIMER_ON, FLAGS = 0x84, 0x8C, 0x85
+
+
+def load_timer(divider, value, enabled):
+    """Divider by its number: 0 for 1, 1 for 8, 2 for 64, 3 for 1,024."""
+    return write(RIOT, 0x94 | divider | (8 if enabled else 0), value)
+
+
+def set_crtc(register, value):
+    return [write(CRTC, 0, register), write(CRTC, 1, value)]
+
+
+def read_crtc(*registers):
+    for register in registers:
+        yield write(CRTC, 0, register)
+        yield read(CRTC, 1)
+
+
+def screen(**settings):
+    """All of the 6545's timing registers, 0 where nothing is said, then a reset."""
+    for register in range(16):
+        yield from set_crtc(register, settings.get(f"r{register}", 0))
+    yield reset(CRTC)
+
+
+def pen_address():
+    """Raises the pen and reads where the next clock found MA."""
+    yield pins(CRTC, 0)
+    yield pins(CRTC, 1)
+    yield run(CRTC, 1)
+    yield read(CRTC, 0)
+    yield from read_crtc(16, 17)
+    yield read(CRTC, 0)
+
+
+def clocks(chip, count, *shown):
+    """Single clocks, each with what is shown after it."""
+    for _ in range(count):
+        yield run(chip, 1)
+        yield from shown
+
+
+# ----------------------------------------------------------- the first lines
+
+def worked_session():
+    yield from ("22020EC0 22020403 22020500 2206 220500000003 220500000001 220304 2206 220310").split()
+
+
+def as_they_come():
+    """What power-up left of each chip."""
+    yield from look_via()
+    yield from reads(VIA, T1_LOW, T2_LOW, PORT_B, PORT_A)
+    yield from reads(RIOT, 0x80, 0x81, 0x82, 0x83, FLAGS, 0, 64, 127)
+    yield forecast(RIOT)
+    yield from (read(RIOT, TIMER_ON), forecast(RIOT), run(RIOT, 1), read(RIOT, TIMER_ON), forecast(RIOT))
+    yield from (read(CRTC, 0), read(CRTC, 1))
+    yield from read_crtc(*range(32))
+    yield from clocks(CRTC, 3, read(CRTC, 0))
+
+
+def every_frame():
+    for chip, levels in ((VIA, (0x5A, 0xC3, 0x0A)), (RIOT, (0x3C, 0xA5)), (CRTC, (1,))):
+        yield from (write(chip, 1, 0x0F), read(chip, 1), pins(chip, *levels), read(chip, 0), run(chip, 0),
+                    run(chip, 1), run(chip, 200), forecast(chip), reset(chip), read(chip, 1), read(chip, 0))
+
+
+# ----------------------------------------------------------------- refusals
+
+def no_frames():
+    """Refusal 2: every chip and call with every number of operands (the right one too)."""
+    for chip in (VIA, RIOT, CRTC):
+        for call in (0, 1, 2, 3, 4, 5, 6, 7, 8, 0x10, 0x81, 0xFF):
+            for operands in range(8):
+                yield frame(chip, call, *(0, 0, 0, 1, 1, 1, 1)[:operands])
+        yield frame(chip)
+    for chip in (0x00, 0x02, 0x20, 0x21, 0x23, 0x25, 0x30, 0x31, 0x33, 0x35, 0x44, 0x46, 0x54, 0xA2, 0xFF):
+        yield from (frame(chip, 1), frame(chip, 3, 1), frame(chip, 6), run(chip, 1))
+
+
+def no_such_register():
+    """Refusal 3, which comes before 4; nothing is changed by it."""
+    yield from clean_via()
+    for register in (16, 17, 27, 28, 31, 32, 64, 128, 240, 255):
+        yield from (write(VIA, register, 0xFF), read(VIA, register))
+    yield from look_via()
+    yield write(CRTC, 0, 8)
+    for address in (2, 3, 4, 8, 31, 32, 128, 255):
+        yield from (write(CRTC, address, 0xFF), read(CRTC, address))
+    yield from (read(CRTC, 1), read(CRTC, 0))
+
+
+def forms_left_out():
+    """Refusal 4: ACR's shift modes, PCR's codes 4 and 5, R8's other bits; the old value stays."""
+    yield from clean_via()
+    for shift in range(8):
+        for others in (0x00, 0xE3):
+            yield from (write(VIA, ACR, others | shift << 2), read(VIA, ACR))
+    for cb2 in range(8):
+        for ca2 in range(8):
+            yield from (write(VIA, PCR, cb2 << 5 | (ca2 & 1) << 4 | ca2 << 1 | cb2 & 1), read(VIA, PCR))
+    # One column, shown, with the delay of DE on: the line byte tells which R8 stands.
+    yield from screen(r0=3, r1=2, r4=1, r6=1, r8=0x10, r10=0x20)
+    for value in (0x01, 0x02, 0x08, 0x40, 0x80, 0xCB, 0xFF, 0x35, 0x11, 0x31, 0x04, 0x00, 0x20, 0x34, 0x30, 0x14):
+        yield from (*set_crtc(8, value), run(CRTC, 1), run(CRTC, 1))
+
+
+def levels_too_high():
+    """Refusal 5: the levels stay as they were, so the edge is still to come."""
+    yield from clean_via(acr=0x23)
+    yield from load_t2(1)
+    for control in (16, 17, 30, 31, 32, 128, 255):
+        yield from (pins(VIA, 0x12, 0x34, control), *reads(VIA, PORT_B, PORT_A, IFR, T2_LOW))
+    yield from (pins(VIA, 0x12, 0x34, 0), *reads(VIA, IFR, T2_LOW, PORT_A_QUIET, PORT_B, PORT_A))
+    yield pins(CRTC, 0)
+    for level in (2, 3, 16, 128, 254, 255):
+        yield from (pins(CRTC, level), run(CRTC, 1), read(CRTC, 0))
+    yield from (pins(CRTC, 1), run(CRTC, 1), read(CRTC, 0), *read_crtc(16, 17), read(CRTC, 0))
+    for level in (2, 255):
+        yield pins(CRTC, level)
+    yield from (pins(CRTC, 1), run(CRTC, 1), read(CRTC, 0))
+
+
+def runs_too_long():
+    """Refusal 6, and the longest run that is none."""
+    yield from screen(r0=99, r1=80, r2=84, r3=0x2A, r4=30, r5=6, r6=25, r7=28, r9=7, r10=0x20)
+    for count in (0x10000, 0x10001, 0x1FFFF, 0x20000, 0x1000000, 0x80000000, LONGEST - 1, LONGEST):
+        yield from (run(CRTC, count), run(CRTC, 0), read(CRTC, 0))
+    yield from (run(CRTC, 0xFFFF), read(CRTC, 0), run(CRTC, 0xFFFE), *pen_address())
+
+
+# -------------------------------------------------------- easy to get wrong
+
+def easy_to_get_wrong():
+    # A free-run period is the latch and two more clocks.
+    for latch in (0, 1, 2, 7):
+        yield from clean_via(acr=0xC0)
+        yield from load_t1(latch)
+        for _ in range(4):
+            yield from (forecast(VIA), run(VIA, latch), run(VIA, 1), read(VIA, PORT_B), run(VIA, 1),
+                        read(VIA, PORT_B), read(VIA, T1_LOW))
+    # A read of register 5 leaves the flag; only one of register 4 clears it.
+    yield from clean_via()
+    yield from (*load_t1(2), run(VIA, 3), *reads(VIA, T1_HIGH, IFR, LATCH_LOW, LATCH_HIGH, IFR, T1_LOW, IFR))
+    # T2 sets its flag at the first passing after a load, and at no later one.
+    yield from clean_via()
+    yield from load_t2(2)
+    for _ in range(3):
+        yield from (forecast(VIA), run(VIA, 2), read(VIA, IFR), run(VIA, 1), read(VIA, IFR), read(VIA, T2_LOW),
+                    run(VIA, 0xFFFD))
+    # The 6532's first flag comes at N x D + 1.
+    for divider, size in enumerate((1, 8, 64, 1024)):
+        for value in (1, 3):
+            yield from (load_timer(divider, value, True), forecast(RIOT), run(RIOT, value * size),
+                        read(RIOT, FLAGS), run(RIOT, 1), read(RIOT, FLAGS), read(RIOT, TIMER))
+    # Bit 7 of IFR is no flag: it goes and comes with the enables, and writing it does nothing.
+    yield from clean_via(enables=0)
+    yield from (*load_t1(0), run(VIA, 1), read(VIA, IFR))
+    for value in (0xC0, 0x40, 0xA0, 0xC0):
+        yield from (write(VIA, IER, value), read(VIA, IFR), read(VIA, IER))
+    yield from (write(VIA, IFR, 0x80), read(VIA, IFR), write(VIA, IFR, 0xC0), read(VIA, IFR))
+    # A port access leaves the flag of an independent CA2 or CB2.
+    for code in (0, 1, 2, 3):
+        yield from clean_via(pcr=code << 5 | code << 1)
+        yield from (pins(VIA, 0xFF, 0xFF, 0x05), pins(VIA, 0xFF, 0xFF, 0x0F), read(VIA, IFR))
+        yield from (read(VIA, PORT_A), read(VIA, IFR), read(VIA, PORT_B), read(VIA, IFR))
+    # A column above a lowered R0 goes on to 255 and ends no line there.
+    yield from screen(r0=9, r1=255, r2=250, r3=0x13, r4=9, r6=2, r7=1, r10=0x20)
+    yield from (run(CRTC, 5), *set_crtc(0, 1), run(CRTC, 250), run(CRTC, 1), read(CRTC, 0), run(CRTC, 1),
+                read(CRTC, 0), run(CRTC, 1), read(CRTC, 0), run(CRTC, 1), read(CRTC, 0), *pen_address())
+
+
+# -------------------------------------------------------- the twelve marked
+
+def marked_cases():
+    for value in (0, 65535):
+        yield from clean_via(enables=0x40)
+        yield from (*load_t1(value), forecast(VIA), run(VIA, value), forecast(VIA), run(VIA, 1), read(VIA, IFR))
+    yield from clean_via(acr=0x40, enables=0x40)
+    yield from load_t1(3)
+    for quiet in (3, 4, 4):
+        yield from (forecast(VIA), run(VIA, quiet), read(VIA, IFR), run(VIA, 1), read(VIA, IFR), read(VIA, T1_LOW))
+    yield from clean_via(acr=0x40, enables=0x40)
+    yield from (*load_t1(0), run(VIA, 1), write(VIA, LATCH_LOW, 0xFF), write(VIA, LATCH_HIGH, 0xFF), forecast(VIA),
+                run(VIA, 65536), forecast(VIA), run(VIA, 1), read(VIA, IFR))
+    yield from clean_via(enables=0x20)
+    yield from (*load_t2(0), run(VIA, 1), read(VIA, T2_LOW), forecast(VIA), run(VIA, 65536), read(VIA, IFR),
+                *reads(VIA, T2_LOW, T2_HIGH))
+    for divider, value, due in ((1, 52, 417), (3, 0, 1), (3, 255, 261121)):
+        yield from (load_timer(divider, value, True), forecast(RIOT), run(RIOT, due - 1), read(RIOT, FLAGS),
+                    forecast(RIOT), run(RIOT, 1), read(RIOT, FLAGS), read(RIOT, TIMER))
+    for adjust, length in ((1, 20), (0, 16)):
+        # VSYNC of one line at row 0 begins with each frame.
+        yield from screen(r0=3, r2=255, r3=0x10, r4=1, r5=adjust, r9=1)
+        for _ in range(2):
+            yield from (run(CRTC, length - 1), run(CRTC, 1))
+        yield from clocks(CRTC, 2 * length)
+    yield from screen(r0=3, r1=2, r2=255, r4=3, r6=4, r7=127, r10=0x20)
+    yield from (run(CRTC, 5), *pen_address())
+    yield from screen(r0=79, r1=80, r2=255, r4=24, r6=25, r7=127, r10=0x20)
+    yield from (run(CRTC, 23 * 80 + 79), *pen_address())
+
+
+# ------------------------------------------------------------------ no frame
+
+def hostile_lines():
+    good = ("2201", "22020EC0", "22030D", "2204FFFF0F", "22050000000A", "2206", "32029C0A", "320384", "45020A0B",
+            "450500000007")
+    for line in good:
+        text = line.encode()
+        yield from (text.lower(), text + b"\r", b"\r" + text, b" " + text, text + b" ", text + b"\t", b"\t" + text,
+                    text + b"\0", text[:-1], text + b"0", text + b"00", text[:2] + b" " + text[2:],
+                    text[:3] + b"\0" + text[4:], text[:-1] + b"\xff", b"0x" + text, text + text)
+    # Every character that stands in for a digit, next to the digits most of all.
+    for character in range(256):
+        if character != 10:
+            yield b"22030" + bytes((character,))
+    yield from (b"", b"", b" ", b"\t", b"\r", b"\0", b"\0" * 4, b"2", b"22", b"220", b"\xef\xbb\xbf2206", b"\xff" * 12)
+    yield from (b"2206\r", b"2206\r\r", b"22\r06", b"2206 2206", b"2206;", b"#", b"-2206", b"+2206", b"22 06")
+    for length in (11, 12, 13, 14, 30, 31, 32, 33, 34, 63, 64, 65, 127, 128, 255, 256, 257, 1000, 4095, 4096, 4097,
+                   8191, 8192, 8193):
+        yield from (b"220500000001".ljust(length, b"0")[:length], b"2206", b"2206".rjust(length, b"0"), b"3206")
+    yield from (b"2206" * 17500, b"2206")
+    yield from (b"2" * 2999, b"\r" * 3000, b"\0" * 3001, b"\xfe" * 3002, b"ab" * 1600, b"2206")
+
+
+# --------------------------------------------------------------------- 6522
+
+def via_registers():
+    """All sixteen written and read, under both directions of the ports."""
+    for number, value in enumerate((0x00, 0xFF, 0x55, 0xAA, 0x01, 0x80)):
+        yield from clean_via(enables=0)
+        yield pins(VIA, 0x3C, 0xC3, 0x0F)
+        for register in range(16):
+            kept = value & (0xE3 if register == ACR else 0x33 if register == PCR else 0xFF)
+            yield from (write(VIA, register, kept), read(VIA, register))
+        yield from look_via()
+        if number % 2:
+            yield from (reset(VIA), *look_via())
+
+
+def via_lines():
+    """Ports by direction, PB7 by the timer, and lines kept at an edge."""
+    for acr in (0x00, 0x01, 0x02, 0x03, 0x80, 0x82, 0xC3):
+        for ddr in (0x00, 0xF0):
+            yield from clean_via(acr=acr, enables=0x12)
+            yield from (write(VIA, DDRA, ddr), write(VIA, DDRB, ddr), write(VIA, PORT_A, 0x96), write(VIA, PORT_B, 0x69))
+            yield from (pins(VIA, 0x5A, 0x3C, 0x0F), *reads(VIA, PORT_A, PORT_B))
+            yield from (pins(VIA, 0x21, 0x43, 0x0A), pins(VIA, 0xDE, 0xBC, 0x0F), pins(VIA, 0x77, 0x88, 0x0A))
+            yield from (write(VIA, DDRB, ddr ^ 0x81), write(VIA, PORT_A_QUIET, 0x0F), *load_t1(1))
+            yield from reads(VIA, PORT_A_QUIET, IFR, PORT_B, PORT_A, IFR, PORT_B, PORT_A)
+            yield from (run(VIA, 2), read(VIA, PORT_B), run(VIA, 3), read(VIA, PORT_B))
+
+
+def via_edges():
+    """Every code of the control lines, and each line down and up."""
+    for code in (0, 1, 2, 3, 6, 7):
+        for first in (0x00, 0x11):
+            yield from clean_via(pcr=code << 5 | code << 1 | first, enables=0x1B)
+            for control in (0x0E, 0x0F, 0x0D, 0x0F, 0x0B, 0x0F, 0x07, 0x0F, 0x00, 0x0F, 0x0F):
+                yield from (pins(VIA, 0xFF, 0xFF, control), read(VIA, IFR), write(VIA, IFR, 0x7F))
+
+
+def via_port_flags():
+    """Which flags an access to a port clears, for every code; PCR moves no level and makes no edge."""
+    for code in (0, 1, 2, 3, 6, 7):
+        for access in (read(VIA, PORT_A), write(VIA, PORT_A, 0), read(VIA, PORT_A_QUIET), write(VIA, PORT_A_QUIET, 0),
+                       read(VIA, PORT_B), write(VIA, PORT_B, 0)):
+            yield from (write(VIA, PCR, 0), pins(VIA, 0xFF, 0xFF, 0x0F), pins(VIA, 0xFF, 0xFF, 0x00))
+            yield from (write(VIA, PCR, code << 5 | code << 1), read(VIA, IFR), access, read(VIA, IFR))
+
+
+def via_timers():
+    # T1, clock by clock around its passing, in one-shot and free-run, PB7 shown.
+    for acr in (0x80, 0xC0):
+        for value in (0, 1, 3):
+            yield from clean_via(acr=acr)
+            yield from load_t1(value)
+            yield from clocks(VIA, 2 * value + 6, *reads(VIA, PORT_B, T1_HIGH, IFR))
+            yield from (read(VIA, T1_LOW), run(VIA, 65535), *reads(VIA, T1_HIGH, IFR), run(VIA, 2),
+                        *reads(VIA, PORT_B, IFR, T1_LOW))
+    # A latch written while the counter is on its way, and while the mark waits for the reload.
+    yield from clean_via(acr=0xC0)
+    yield from (*load_t1(4), run(VIA, 2), write(VIA, LATCH_LOW, 9), write(VIA, LATCH_HIGH, 1), forecast(VIA), run(VIA, 3),
+                write(VIA, T1_LOW, 2), write(VIA, LATCH_HIGH, 0), forecast(VIA), run(VIA, 1), read(VIA, T1_LOW),
+                forecast(VIA), run(VIA, 3), read(VIA, IFR))
+    # The mark reloads in one-shot too; a load or a reset takes it away.
+    for change in ([write(VIA, ACR, 0x80)], load_t1(7), [reset(VIA)]):
+        yield from clean_via(acr=0xC0)
+        yield from (*load_t1(5), run(VIA, 6), read(VIA, IFR), *change, forecast(VIA), run(VIA, 1),
+                    *reads(VIA, T1_LOW, T1_HIGH), run(VIA, 7), *reads(VIA, IFR, PORT_B), *look_via())
+    # One-shot: disarmed after its passing, armed by a load alone; free-run needs no arming.
+    yield from clean_via()
+    yield from (*load_t1(1), run(VIA, 2), write(VIA, IFR, 0x7F), forecast(VIA), write(VIA, LATCH_HIGH, 0), forecast(VIA),
+                run(VIA, 65536), read(VIA, IFR), write(VIA, ACR, 0x40), forecast(VIA), run(VIA, 65536), read(VIA, IFR))
+    # T2 by clocks: its low latch, a load, its flag; by pulses: PB6 alone, whatever its direction.
+    yield from clean_via()
+    yield from (write(VIA, T2_LOW, 3), read(VIA, T2_LOW), write(VIA, T2_HIGH, 1), *reads(VIA, T2_HIGH, T2_LOW),
+                run(VIA, 259), forecast(VIA), run(VIA, 1), *reads(VIA, IFR, T2_HIGH, IFR, T2_LOW, IFR))
+    for ddrb in (0x00, 0xFF):
+        yield from clean_via(acr=0x20)
+        yield from (write(VIA, DDRB, ddrb), *load_t2(2), forecast(VIA), run(VIA, 1000))
+        for level in (0xBF, 0xBF, 0xFF, 0x3F, 0x7F, 0x00, 0x40, 0xBF):
+            yield from (pins(VIA, 0xFF, level, 0x0F), *reads(VIA, T2_HIGH, IFR), forecast(VIA))
+        yield from (read(VIA, T2_LOW), write(VIA, ACR, 0), forecast(VIA), run(VIA, 2), read(VIA, T2_LOW))
+        yield from (pins(VIA, 0xFF, 0xFF, 0x0F), pins(VIA, 0xFF, 0xBF, 0x0F), read(VIA, T2_LOW))
+    # Both timers: the forecast is the sooner of those that are enabled.
+    for enables in (0x20, 0x40, 0x60):
+        for first, second in ((9, 5), (5, 9), (6, 6)):
+            yield from clean_via(enables=enables)
+            yield from (*load_t1(first), *load_t2(second), forecast(VIA), run(VIA, 4), forecast(VIA), run(VIA, 3),
+                        forecast(VIA), run(VIA, 5), forecast(VIA), *reads(VIA, IFR, T1_LOW, T2_LOW))
+    for register in (IFR, IER):
+        yield from clean_via(enables=0)
+        yield from (*load_t1(0), *load_t2(0), pins(VIA, 0, 0, 0), run(VIA, 1), read(VIA, IFR))
+        for bit in range(8):
+            yield from (write(VIA, register, 1 << bit | (0x80 if register == IER else 0)), *reads(VIA, IFR, IER))
+        for bit in range(7):
+            yield from (write(VIA, IER, 1 << bit), *reads(VIA, IFR, IER))
+
+
+# --------------------------------------------------------------------- 6532
+
+def riot_memory():
+    for address in range(128):
+        yield write(RIOT, address, (address * 73 + 5) & 255)
+    for address in (0x80, 0x94, 0xFF):
+        yield write(RIOT, address, 0)
+    yield reset(RIOT)
+    for address in reversed(range(128)):
+        yield read(RIOT, address)
+
+
+def riot_addresses():
+    """Every form of an I/O address, read and written with both flags set."""
+    for form in range(32):
+        address = 0x80 | form | 0x20 * (form * 5 % 4)
+        for access in (read(RIOT, address), write(RIOT, address ^ 0x40, 0x69)):
+            yield from (write(RIOT, 0x86, 0), load_timer(0, 0, True), run(RIOT, 1), pins(RIOT, 0xF0, 0x0F),
+                        pins(RIOT, 0x70, 0x0F), access, forecast(RIOT), read(RIOT, FLAGS), read(RIOT, FLAGS))
+        yield from (pins(RIOT, 0xF0, 0x3C), *reads(RIOT, 0x80, 0x81, 0x82, 0x83), read(RIOT, TIMER_ON))
+    yield from (reset(RIOT), *reads(RIOT, 0x80, 0x81, 0x82, 0x83))
+
+
+def riot_timer():
+    for divider, size in enumerate((1, 8, 64, 1024)):
+        for value in (0, 1, 52, 255):
+            due = 1 + value * size
+            for enabled in (True, False):
+                yield from (load_timer(divider, value, enabled), forecast(RIOT), run(RIOT, due - 1), run(RIOT, 1),
+                            forecast(RIOT), run(RIOT, 1), read(RIOT, FLAGS), read(RIOT, TIMER_ON), read(RIOT, FLAGS),
+                            forecast(RIOT), run(RIOT, 254), read(RIOT, TIMER), run(RIOT, 1), read(RIOT, FLAGS),
+                            read(RIOT, TIMER_ON))
+        # The prescaler on its way, through a reset and through reads.
+        yield from (load_timer(divider, 3, False), run(RIOT, size), read(RIOT, TIMER_ON), forecast(RIOT),
+                    run(RIOT, size // 2 + 1), reset(RIOT), forecast(RIOT), read(RIOT, TIMER_ON), forecast(RIOT))
+        yield from clocks(RIOT, 4, read(RIOT, TIMER_ON), forecast(RIOT))
+
+
+def riot_pa7():
+    for control in range(4):
+        for ddra in (0x00, 0xFF):
+            yield from (reset(RIOT), pins(RIOT, 0xFF, 0xFF), write(RIOT, 0x81, ddra), write(RIOT, 0x84 | control, 0x55))
+            for level in (0xFF, 0x7F, 0x00, 0x80, 0xFF, 0x7F):
+                yield from (pins(RIOT, level, 0xFF), forecast(RIOT), read(RIOT, FLAGS), read(RIOT, 0x80))
+            yield from (pins(RIOT, 0xFF, 0xFF), pins(RIOT, 0x7F, 0xFF), write(RIOT, 0x84 | control ^ 3, 0), run(RIOT, 0),
+                        read(RIOT, TIMER), read(RIOT, FLAGS), write(RIOT, 0x80, 0x7F), read(RIOT, FLAGS))
+
+
+# --------------------------------------------------------------------- 6545
+
+def crtc_registers():
+    """All 32 written and read; the address register has five bits."""
+    for value in (0xFF, 0x00, 0xA5):
+        for register in range(32):
+            yield from (write(CRTC, 0, register | 0x20 * (register % 8)), write(CRTC, 1, value & (0x34 if register == 8 else 0xFF)),
+                        read(CRTC, 1))
+        yield from (reset(CRTC), read(CRTC, 1), *read_crtc(14, 15, 16, 17, 31), read(CRTC, 0))
+    # Bits beyond a width have dropped: counters that end there do end.
+    yield from screen(r0=0, r1=1, r4=0x81, r5=0xE1, r6=0x81, r7=0x81, r9=0xE1, r10=0xA0, r11=0xFF)
+    yield from clocks(CRTC, 12, read(CRTC, 0))
+
+
+def crtc_screens():
+    """Small frames, clock by clock, with every signal and MA now and then."""
+    for settings in (
+        {"r0": 3, "r1": 2, "r2": 2, "r3": 0x11, "r4": 1, "r5": 1, "r6": 1, "r7": 1, "r9": 1},
+        {"r0": 4, "r1": 5, "r2": 4, "r3": 0x23, "r4": 2, "r5": 2, "r6": 2, "r7": 0, "r9": 0, "r8": 0x30},
+        {"r0": 2, "r1": 2, "r2": 0, "r3": 0x00, "r4": 0, "r5": 3, "r6": 127, "r7": 0, "r9": 2, "r8": 0x10},
+        {"r0": 5, "r1": 4, "r2": 3, "r3": 0x0F, "r4": 1, "r6": 2, "r7": 1, "r9": 1, "r8": 0x24, "r12": 0x3F, "r13": 0xFE},
+        {"r0": 1, "r1": 255, "r2": 1, "r3": 0xF1, "r4": 3, "r5": 1, "r6": 4, "r7": 2, "r12": 0x3F, "r13": 0xFF},
+    ):
+        start = settings.get("r12", 0) << 8 | settings.get("r13", 0)
+        yield from screen(r11=31, r14=start >> 8, r15=start & 255, **settings)
+        yield from clocks(CRTC, 44)
+        yield read(CRTC, 0)
+        for _ in range(3):
+            yield from pen_address()
+        yield from (reset(CRTC), run(CRTC, 1), read(CRTC, 0))
+    # VSYNC's 16 lines for 0, HSYNC cut short by its next beginning, none for 0.
+    yield from screen(r0=0, r4=31, r3=0x00, r7=0)
+    yield from clocks(CRTC, 50)
+    for width in (0x1F, 0x13, 0x10):
+        yield from screen(r0=7, r2=2, r3=width, r4=3, r7=127)
+        yield from (run(CRTC, 2), run(CRTC, 1), *set_crtc(2, 4), *clocks(CRTC, 3), *set_crtc(3, 0x10), *clocks(CRTC, 9))
+
+
+def crtc_cursor():
+    """The cursor's place, its lines of a row, and its blinking over 33 fields."""
+    for shape, end in ((0x00, 31), (0x01, 2), (0x02, 1), (0x20, 31), (0x03, 3)):
+        yield from screen(r0=2, r1=3, r2=255, r4=1, r6=2, r7=127, r9=3, r10=shape, r11=end, r15=4)
+        yield from clocks(CRTC, 26)
+    for shape in (0x40, 0x60):
+        yield from screen(r0=1, r1=2, r2=255, r4=0, r6=1, r7=127, r10=shape, r11=31)
+        for _ in range(34):
+            yield run(CRTC, 2)
+    # The place moves at once, the delayed signal a clock later.
+    for r8 in (0x00, 0x20, 0x30):
+        yield from screen(r0=3, r1=4, r2=255, r4=1, r6=2, r7=127, r8=r8, r11=31)
+        yield from (*set_crtc(15, 1), run(CRTC, 0), run(CRTC, 1), *set_crtc(15, 2), run(CRTC, 1), run(CRTC, 1),
+                    *set_crtc(1, 0), run(CRTC, 0), run(CRTC, 1), run(CRTC, 1))
+
+
+def crtc_lowered():
+    """R0, R4, R5 and R9 put below the counters that they end, which then go all the way round."""
+    for register, high, low, before, rounds in ((0, 9, 2, 5, (253, 1, 3)), (9, 9, 1, 10, (48, 2, 4)),
+                                                (4, 9, 1, 10, (246, 2, 4)), (5, 9, 2, 12, (50, 2, 2))):
+        settings = {"r0": 1, "r1": 2, "r2": 255, "r4": 0, "r6": 2, "r7": 0, "r3": 0x10, "r10": 0x20}
+        settings[f"r{register}"] = high
+        yield from screen(**settings)
+        yield from (run(CRTC, before), read(CRTC, 0), *set_crtc(register, low))
+        for count in rounds:
+            yield from (run(CRTC, count), read(CRTC, 0))
+        yield from clocks(CRTC, 10)
+        yield from pen_address()
+
+
+def crtc_pen():
+    yield from screen(r0=9, r1=10, r2=255, r4=3, r6=4, r7=127, r10=0x20)
+    yield from (pins(CRTC, 0), run(CRTC, 3), pins(CRTC, 1), read(CRTC, 0), pins(CRTC, 0), read(CRTC, 0), run(CRTC, 1),
+                read(CRTC, 0), *read_crtc(14), read(CRTC, 0), *read_crtc(17), read(CRTC, 0), *read_crtc(16))
+    # While it is full a strobe still stores; while one waits another is the same one; a reset drops it.
+    yield from (pins(CRTC, 1), run(CRTC, 2), pins(CRTC, 0), pins(CRTC, 1), pins(CRTC, 0), pins(CRTC, 1), run(CRTC, 7),
+                *read_crtc(17), run(CRTC, 5), *read_crtc(17), pins(CRTC, 1), run(CRTC, 1), *read_crtc(17))
+    yield from (pins(CRTC, 0), pins(CRTC, 1), reset(CRTC), run(CRTC, 4), read(CRTC, 0), *read_crtc(17))
+    yield from (pins(CRTC, 0), pins(CRTC, 1), run(CRTC, 1), reset(CRTC), read(CRTC, 0), *set_crtc(17, 0x55),
+                read(CRTC, 0), *read_crtc(17), read(CRTC, 0), pins(CRTC, 1), run(CRTC, 1), read(CRTC, 0))
+
+
+# ---------------------------------------------------------- runs and the rest
+
+def longest_runs():
+    """T1 in free-run, T2, and a 6532 timer, each over 4,294,967,295 clocks; the 6545 has its own limit."""
+    yield from clean_via(acr=0xC0)
+    yield from (*load_t1(0x5BA7), *load_t2(0x2211), run(VIA, LONGEST), *reads(VIA, PORT_B, T1_HIGH, T2_HIGH, IFR, T1_LOW,
+                                                                          T2_LOW), *look_via())
+    yield from (load_timer(3, 200, True), run(RIOT, LONGEST), forecast(RIOT), read(RIOT, FLAGS), read(RIOT, TIMER))
+    yield from (run(CRTC, 0xFFFF), read(CRTC, 0), run(CRTC, 0x10000), run(CRTC, LONGEST), read(CRTC, 0))
+    for chip, most in ((VIA, 1 << 20), (RIOT, 1 << 20), (CRTC, 1 << 15)):
+        for power in range(most.bit_length()):
+            yield from (run(chip, (1 << power) - 1), run(chip, 1 << power))
+        yield from reads(chip, *((T1_HIGH, T1_LOW, T2_HIGH, T2_LOW, IFR) if chip == VIA else (0x84, 0x85) if chip == RIOT else (0,)))
+
+
+def generated():
+    """sessions.py's stories; runs are kept short, for the reference also goes clock by clock."""
+    for seed, count, chips in ((1, 300, ("22",)), (2, 200, ("32",)), (3, 300, ("45",)), (4, 700, ("22", "32", "45"))):
+        yield from sessions.session(seed, count, 70_000, chips, 4)
+
+
+SECTIONS = (
+    worked_session, as_they_come, every_frame, no_frames, no_such_register, forms_left_out, levels_too_high,
+    runs_too_long, easy_to_get_wrong, marked_cases, hostile_lines, via_registers, via_lines, via_edges,
+    via_port_flags, via_timers, riot_memory, riot_addresses, riot_timer, riot_pa7, crtc_registers, crtc_screens,
+    crtc_cursor, crtc_lowered, crtc_pen, longest_runs, generated,
+)
+
+
+def main():
+    if len(sys.argv) > 1:
+        sys.exit(__doc__)
+    out = sys.stdout.buffer
+    for section in SECTIONS:
+        for line in section():
+            out.write((line if isinstance(line, bytes) else line.encode()) + b"\n")
+    # The last line has no LF, and is answered all the same.
+    out.write(forecast(VIA).encode())
+
+
+if __name__ == "__main__":
+    main()
