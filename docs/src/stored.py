@@ -141,6 +141,9 @@ def as_they_come():
     """What power-up left of each chip."""
     yield from look_via()
     yield from reads(VIA, T1_LOW, T2_LOW, PORT_B, PORT_A)
+    # T2's low latch, and the 6545's address register, to which nothing has been written yet.
+    yield from (write(VIA, T2_HIGH, 0), *reads(VIA, T2_LOW, T2_HIGH))
+    yield from (write(CRTC, 1, 3), *clocks(CRTC, 6), write(CRTC, 1, 0), reset(CRTC))
     yield from reads(RIOT, 0x80, 0x81, 0x82, 0x83, FLAGS, 0, 64, 127)
     yield forecast(RIOT)
     yield from (read(RIOT, TIMER_ON), forecast(RIOT), run(RIOT, 1), read(RIOT, TIMER_ON), forecast(RIOT))
@@ -153,6 +156,27 @@ def every_frame():
     for chip, levels in ((VIA, (0x5A, 0xC3, 0x0A)), (RIOT, (0x3C, 0xA5)), (CRTC, (1,))):
         yield from (write(chip, 1, 0x0F), read(chip, 1), pins(chip, *levels), read(chip, 0), run(chip, 0),
                     run(chip, 1), run(chip, 200), forecast(chip), reset(chip), read(chip, 1), read(chip, 0))
+
+
+def resets():
+    """What a reset takes away and what it leaves, with as much as possible set before it."""
+    yield from clean_via(acr=0xC3, pcr=0xFF)
+    yield from (write(VIA, SR, 0x5A), *load_t1(5), *load_t2(9), run(VIA, 6), pins(VIA, 0x3C, 0xC3, 0))
+    for port, direction in ((PORT_A, DDRA), (PORT_B, DDRB)):
+        yield from (write(VIA, port, 0xFF), write(VIA, direction, 0xFF))
+    yield from (reset(VIA), *look_via(), *reads(VIA, PORT_B, PORT_A))
+    yield from (write(VIA, DDRA, 0xFF), write(VIA, DDRB, 0xFF), *reads(VIA, PORT_B, PORT_A), write(VIA, ACR, 0x80),
+                read(VIA, PORT_B), write(VIA, IER, 0xFF), forecast(VIA), pins(VIA, 0x3C, 0xC3, 0), read(VIA, IFR),
+                run(VIA, 0x20000), *reads(VIA, IFR, PORT_B))
+    yield from (pins(RIOT, 0x7F, 0x55), write(RIOT, 0x87, 0), pins(RIOT, 0xFF, 0xAA), load_timer(1, 0, True), run(RIOT, 2))
+    yield from (write(RIOT, 0x80 | register, 0xFF) for register in range(4))
+    yield from (reset(RIOT), forecast(RIOT), *reads(RIOT, 0x80, 0x81, 0x82, 0x83, FLAGS))
+    yield from (write(RIOT, 0x81, 0xFF), write(RIOT, 0x83, 0xFF), *reads(RIOT, 0x80, 0x82), pins(RIOT, 0x7F, 0xAA),
+                forecast(RIOT), read(RIOT, FLAGS), pins(RIOT, 0xFF, 0xAA), read(RIOT, FLAGS), read(RIOT, TIMER_ON))
+    yield from screen(r0=3, r1=4, r2=1, r3=0x2F, r4=1, r5=2, r6=2, r7=0, r8=0x30, r9=1, r11=31, r12=0x12, r13=0x34)
+    yield from (run(CRTC, 18), *pen_address(), pins(CRTC, 0), pins(CRTC, 1), run(CRTC, 1), pins(CRTC, 0), pins(CRTC, 1),
+                *set_crtc(13, 0x40), reset(CRTC), read(CRTC, 0), run(CRTC, 1), read(CRTC, 0), *read_crtc(16, 17),
+                run(CRTC, 1), *pen_address())
 
 
 # ----------------------------------------------------------------- refusals
@@ -469,6 +493,9 @@ def crtc_registers():
     # Bits beyond a width have dropped: counters that end there do end.
     yield from screen(r0=0, r1=1, r4=0x81, r5=0xE1, r6=0x81, r7=0x81, r9=0xE1, r10=0xA0, r11=0xFF)
     yield from clocks(CRTC, 12, read(CRTC, 0))
+    yield from screen(r0=1, r1=2, r2=255, r4=1, r6=2, r7=127, r9=3, r10=0x80, r11=0xE1, r12=0xD2, r13=0x34, r14=0xD2, r15=0x34)
+    yield from clocks(CRTC, 10)
+    yield from pen_address()
 
 
 def crtc_screens():
@@ -559,7 +586,7 @@ def generated():
 
 
 SECTIONS = (
-    worked_session, as_they_come, every_frame, no_frames, no_such_register, forms_left_out, levels_too_high,
+    worked_session, as_they_come, every_frame, resets, no_frames, no_such_register, forms_left_out, levels_too_high,
     runs_too_long, easy_to_get_wrong, marked_cases, hostile_lines, via_registers, via_lines, via_edges,
     via_port_flags, via_timers, riot_memory, riot_addresses, riot_timer, riot_pa7, crtc_registers, crtc_screens,
     crtc_cursor, crtc_lowered, crtc_pen, longest_runs, generated,
