@@ -13,10 +13,19 @@ use borrow.Author.Tests.{eq-eqb, ne-eqb, le-leb, lt-leb}
 use Rattle.frames.specs.Frames.{frameOf}
 use Rattle.frames.specs.Replies.{render, Appended, Put}
 use Rattle.frames.proofs.Texts.{render-short, drop-later}
-use Rattle.session.specs.Steps.{stepOf}
+use Rattle.frames.specs.declared.Call22.{Call22}
+use Rattle.frames.specs.declared.Call32.{Call32}
+use Rattle.frames.specs.declared.Call45.{Call45}
+use Rattle.frames.specs.declared.Frame.{Frame}
+use Rattle.frames.specs.declared.Frame.the-variants.{Unknown, To22, To32, To45}
+use Rattle.frames.specs.declared.Reply.the-variants.{Refused}
+use Rattle.session.specs.Steps.{on22, on32, on45, stepOf}
 use Rattle.session.specs.Sessions.{ended, nextOf, saysOf}
 use Rattle.session.specs.Pieces.{Taken, before, takes, Written, Feeds}
 use Rattle.session.specs.declared.Bench.{Bench}
+use Rattle.session.specs.declared.After22.{After22}
+use Rattle.session.specs.declared.After32.{After32}
+use Rattle.session.specs.declared.After45.{After45}
 use Rattle.session.specs.declared.Stepped.{Stepped}
 use Rattle.session.specs.declared.Fed.{Fed}
 
@@ -145,3 +154,27 @@ module _ {b₀ : Bench} {s out₀ out : List ℕ} {b : Bench} {at made i : ℕ} 
   pub going-full : i < length s → getD s i 0 ≡ 10 → length out - made < 13 → Feeds b₀ s out₀ out (record { bench = b; used = at; made = made })
   going-full k n h =
       ends (ap (takes (length out₀ - made) b) (line-ends k n) ∙ rw (lt-leb 13 (length out₀ - made) (omega (arith, g .sized))))
+
+-- what a frame of each kind leaves and replies, put together from the chip that it names
+module _ (b : Bench) (l : List ℕ) {f : Frame} (e : f ≡ frameOf l) where
+  pub unknown-steps : f ≡ Unknown → record { bench = b; reply = Refused 2 } ≡ stepOf b (frameOf l)
+  unfolding stepOf
+  unknown-steps k = rw (← e, k)
+
+  pub steps22 :
+      (c : Call22) (a : After22) → f ≡ To22 c → a ≡ on22 (b .via) c
+      → record { bench = record { via = a .via; riot = b .riot; crtc = b .crtc }; reply = a .reply } ≡ stepOf b (frameOf l)
+  unfolding stepOf
+  steps22 c a k h = rw (← e, k, h)
+
+  pub steps32 :
+      (c : Call32) (a : After32) → f ≡ To32 c → a ≡ on32 (b .riot) c
+      → record { bench = record { via = b .via; riot = a .riot; crtc = b .crtc }; reply = a .reply } ≡ stepOf b (frameOf l)
+  unfolding stepOf
+  steps32 c a k h = rw (← e, k, h)
+
+  pub steps45 :
+      (c : Call45) (a : After45) → f ≡ To45 c → a ≡ on45 (b .crtc) c
+      → record { bench = record { via = b .via; riot = b .riot; crtc = a .crtc }; reply = a .reply } ≡ stepOf b (frameOf l)
+  unfolding stepOf
+  steps45 c a k h = rw (← e, k, h)

@@ -99,7 +99,18 @@ impl Bench {
         self.step(frames::decode(line))
     }
 
-    // As many whole lines as there is room for the answers of, 13 bytes each.
+    fn fed(self, used: usize, made: usize) -> Fed
+        ensures { λ r. ⌜ r ≡ record { bench = self; used = used; made = made } ⌝ }
+    {
+        Fed {
+            bench: self,
+            used,
+            made,
+        }
+    }
+
+    // As many whole lines as there is room for the answers of, 13 bytes each. A line copies only the chip that it names,
+    // which is why this goes by cases where `step` could be called.
     pub fn feed(self, input: &[u8], out: &mut [u8]) -> Fed
         ensures { λ r. ⌜ Feeds self (now (input .entry)) (now (out .entry)) (now (out .exit)) r ⌝ }
     {
@@ -110,25 +121,38 @@ impl Bench {
         while i < input.len() {
             if input[i] == 10 {
                 if out.len() - made < 13 {
-                    return Fed {
-                        bench: now,
-                        used: at,
-                        made,
-                    };
+                    return now.fed(at, made);
                 }
-                let r = now.line(&input[at..i]);
-                let reply = r.reply;
-                made = frames::put(out, made, reply);
-                now = r.bench;
+                let frame = frames::decode(&input[at..i]);
+                match frame {
+                    Frame::Unknown => made = frames::put(out, made, Reply::Refused(2)),
+                    Frame::To22(call) => {
+                        let after = chips::on22(now.via, call);
+                        let via = after.via;
+                        now.via = via;
+                        let reply = after.reply;
+                        made = frames::put(out, made, reply);
+                    }
+                    Frame::To32(call) => {
+                        let after = chips::on32(now.riot, call);
+                        let riot = after.riot;
+                        now.riot = riot;
+                        let reply = after.reply;
+                        made = frames::put(out, made, reply);
+                    }
+                    Frame::To45(call) => {
+                        let after = chips::on45(now.crtc, call);
+                        let crtc = after.crtc;
+                        now.crtc = crtc;
+                        let reply = after.reply;
+                        made = frames::put(out, made, reply);
+                    }
+                }
                 at = i + 1;
             }
             i += 1;
         }
-        Fed {
-            bench: now,
-            used: at,
-            made,
-        }
+        now.fed(at, made)
     }
 
     // The answer to a last line that no LF ends; none for an empty one, and none without 13 bytes for it.
