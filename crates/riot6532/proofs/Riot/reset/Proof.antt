@@ -2,5 +2,8 @@ use borrow.Author.Needs.{needs}
 use Rattle.riot6532.proofs.Riot.reset.Statement.{statement}
 use Rattle.riot6532.proofs.Riot.reset.Tie as tie
 
+returns : tie.Need-returns
+returns c = rw (c .judged .ensures, c .before .reset .ensures)
+
 pub reset-spec : {M : Type 1} → statement M
-reset-spec = tie.close (tie.spec (λ c κs. search needs) (λ c κs. search needs) (λ c. cc))
+reset-spec = tie.close (tie.spec (λ c κs. search needs) (λ c κs. search needs) returns)
