@@ -1,5 +1,5 @@
 -- How long a reply is, which lines are no frame by their length alone, and texts put one after the other.
-use mathlib.Core.Path.{_≡_, refl, ap, sym, _∙_}
+use mathlib.Core.Path.{_≡_, refl, ap, ap₂, sym, _∙_}
 use mathlib.Core.Bool.{Bool, true, false, _&&_}
 use mathlib.Core.List.{List, [], _∷_, _++_, append-assoc}
 use Prim.Native.Nat.{ℕ, suc, _+_, _<_, _≤_}
@@ -7,7 +7,7 @@ use native.Mathlib.Nat.{add-assoc}
 use native.Mathlib.Omega.{arith}
 use native.Mathlib.Numerals.{add-one, add-two}
 use borrow.Author.Tests.{lt-leb}
-use lib.ListN.{length, take, drop, set, length-set, length-append}
+use lib.ListN.{length, take, drop, set, length-set, length-append, take-append-drop}
 use lib.Seq.{take-suc-set, drop-set-lt, drop-drop}
 use Rattle.clocks.specs.Clocks.{if_then_else_}
 use Rattle.frames.specs.Hex.{hexOf}
@@ -56,6 +56,11 @@ module _ (l : List ℕ) (at x : ℕ) where
 
   pub two-rest : (y : ℕ) → drop (at + 2) (set (set l at x) (at + 1) y) ≡ drop (at + 2) l
   two-rest y = drop-set-lt (at + 2) (set l at x) (at + 1) y (omega arith) ∙ drop-set-lt (at + 2) l at x (omega arith)
+
+-- two lists that agree before a place and from it on are one
+pub same-halves : (n m : ℕ) (x y : List ℕ) → n ≡ m → take n x ≡ take m y → drop n x ≡ drop m y → x ≡ y
+same-halves n m x y e t d =
+    sym (take-append-drop n x) ∙ ap₂ (λ (a b : List ℕ). a ++ b) t d ∙ take-append-drop m y
 
 -- what is untouched from a place on is untouched from each later one
 pub drop-later : (a b : List ℕ) (r n : ℕ) → drop r b ≡ drop r a → drop (r + n) b ≡ drop (r + n) a

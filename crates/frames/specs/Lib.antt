@@ -1,3 +1,4 @@
 pub mod Hex
 pub mod Frames
 pub mod Replies
+pub mod Demands

@@ -1,6 +1,8 @@
 -- The statements of specs/Demands.antt, proved.
 use Rattle.session.specs.Demands
+use Rattle.session.proofs.Aheads as Aheads
 use Rattle.session.proofs.Cuts as Cuts
+use Rattle.session.proofs.Ones as Ones
 use Rattle.session.proofs.Piecing as Piecing
 use Rattle.session.proofs.Taking as Taking
 use Rattle.session.proofs.Reaching as Reaching
@@ -29,3 +31,15 @@ never-1 = Reaching.never-1
 
 pub line-for-line : Demands.Line-for-line
 line-for-line = Answering.line-for-line
+
+pub forecast-told : Demands.Forecast-told
+forecast-told = Aheads.forecast-told
+
+pub feeds-one : Demands.Feeds-one
+feeds-one = Ones.feeds-one
+
+pub finishes-one : Demands.Finishes-one
+finishes-one = Ones.finishes-one
+
+pub keeps-one : Demands.Keeps-one
+keeps-one = Ones.keeps-one

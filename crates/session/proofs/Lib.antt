@@ -4,6 +4,7 @@ pub mod Keeping
 pub mod Cuts
 pub mod Taking
 pub mod Piecing
+pub mod Ones
 pub mod Reaching
 pub mod Answering
 pub mod Demands

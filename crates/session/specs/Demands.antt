@@ -5,12 +5,19 @@ use Prim.Native.Nat.{ℕ, _+_, _*_, _<_, _≤_}
 use lib.ListN.{length, take, drop}
 use Rattle.frames.specs.Frames.{frameOf}
 use Rattle.frames.specs.declared.Reply.the-variants.{Refused}
+use Rattle.clocks.specs.Forecasts.{numberOf}
+use Rattle.via6522.specs.Answers as Answers22
 use Rattle.via6522.specs.Demands as Calls22
+use Rattle.via6522.specs.declared.Via.{Via}
+use Rattle.via6522.specs.declared.Outlook as Outlook22
+use Rattle.riot6532.specs.Answers as Answers32
+use Rattle.riot6532.specs.declared.Riot.{Riot}
+use Rattle.riot6532.specs.declared.Outlook as Outlook32
 use Rattle.riot6532.specs.Demands as Calls32
 use Rattle.crtc6545.specs.Demands as Calls45
-use Rattle.session.specs.Steps.{powerUp, stepOf}
+use Rattle.session.specs.Steps.{forecast22, forecast32, powerUp, stepOf}
 use Rattle.session.specs.Sessions.{ended, open-line, linesOf, nextAll, saysAll, session}
-use Rattle.session.specs.Pieces.{takes, Feeds, Keeps, at-start, written-for, joined, Piece}
+use Rattle.session.specs.Pieces.{takes, Feeds, Finishes, Keeps, at-start, written-for, joined, Piece}
 use Rattle.session.specs.declared.Bench.{Bench}
 use Rattle.session.specs.declared.Fed.{Fed}
 
@@ -61,3 +68,19 @@ Never-1 = (ls : List (List ℕ)) (l : List ℕ) → stepOf (nextAll powerUp ls) 
 -- one line is written for each line of a file, and nothing after the last one's LF
 abbrev pub Line-for-line : Type 0
 Line-for-line = (s : List ℕ) → (length (ended [] (session s)) ≡ length (linesOf s)) × (open-line [] (session s) ≡ [])
+
+-- a session's forecast is the number of the chip's, which is the least number of clocks, or never
+abbrev pub Forecast-told : Type 0
+Forecast-told =
+    ((v : Via) (r : Outlook22.Outlook) → Calls22.Reached v → Answers22.Foretold v r → forecast22 v ≡ numberOf (r .forecast))
+    × ((v : Riot) (r : Outlook32.Outlook) → Calls32.Reached v → Answers32.Foretold v r → forecast32 v ≡ numberOf (r .forecast))
+
+-- any two results that a promise about a buffer allows coincide, all of the buffer among them
+abbrev pub Feeds-one : Type 0
+Feeds-one = (b : Bench) (s out x y : List ℕ) (r t : Fed) → Feeds b s out x r → Feeds b s out y t → (x ≡ y) × (r ≡ t)
+
+abbrev pub Finishes-one : Type 0
+Finishes-one = (b : Bench) (s out x y : List ℕ) (m k : ℕ) → Finishes b s out x m → Finishes b s out y k → (x ≡ y) × (m ≡ k)
+
+abbrev pub Keeps-one : Type 0
+Keeps-one = (buf x y : List ℕ) (used n k j : ℕ) → Keeps buf x used n k → Keeps buf y used n j → (x ≡ y) × (k ≡ j)

@@ -1,0 +1,9 @@
+-- What the demands ask of texts. proofs/Demands.antt has a proof of each statement, under its name in small letters.
+use mathlib.Core.Path.{_≡_}
+use mathlib.Core.List.{List}
+use Prim.Native.Nat.{ℕ}
+use Rattle.frames.specs.Replies.{Put}
+
+-- any two results that the promise of `put` allows coincide, all of the buffer among them
+abbrev pub Put-one : Type 0
+Put-one = (before x y : List ℕ) (at r q : ℕ) (t : List ℕ) → Put before x at r t → Put before y at q t → (x ≡ y) × (r ≡ q)
