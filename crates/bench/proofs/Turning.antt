@@ -8,6 +8,7 @@ use native.Mathlib.Omega.{arith}
 use lib.ListN.{length, take, drop, length-drop}
 use lib.Seq.{take-at, length-take-le}
 use borrow.Rule.Slice.PartMut.{putMid}
+use Rattle.clocks.proofs.Tests.{both}
 use Rattle.session.specs.Pieces.{Held, at-start, held, wrote, Written, Finishes, Piece}
 use Rattle.session.specs.declared.Bench.{Bench}
 use Rattle.session.specs.declared.Fed.{Fed}
@@ -51,13 +52,9 @@ feeds b buf buf′ out′ kept more k fed n h p =
     rw (goes-on (holding b (take kept buf)) _ (some-came buf kept more n h))
     (record { holds = p .next; text = p .out; small = p .small; made = p .made }, refl)
 
--- what a read leaves of the bytes before the part that it was lent
+-- a read into the buffer from a on leaves its first a bytes
 pub front : (a k : ℕ) (xs ys : List ℕ) → a ≤ length xs → take a (putMid a k xs ys) ≡ take a xs
 front a k xs ys h = take-at (take a xs) _ a (length-take-le a xs h)
-
-first-true : (a b : Bool) → a && b ≡ true → a ≡ true
-first-true true b e = refl
-first-true false b e = absurd (false≢true e)
 
 -- what was taken of a piece, with the word whether all of it was written
 pub turns :
@@ -66,7 +63,7 @@ pub turns :
     → Turned (holding b kept₀) (record { bench = t .bench; kept = t .kept; made = t .made; «goes_on» = t .«goes_on» && ok }) buf out
 turns b {kept₀} {kept} {buf} {out} piece t ok e p =
     rw (← e)
-    (inr (piece, record { holds = p .0 .holds; text = p .0 .text; small = p .0 .small; made = p .0 .made }, λ g. sym (p .1) ∙ first-true (t .«goes_on») ok g))
+    (inr (piece, record { holds = p .0 .holds; text = p .0 .text; small = p .0 .small; made = p .0 .made }, λ g. sym (p .1) ∙ both (t .«goes_on») ok g .0))
 
 -- a turn that goes on leaves what one more piece leaves
 held-more : (h : Held) (pieces : List (List ℕ)) (piece : List ℕ) → held-after h (pieces ++ piece ∷ []) ≡ held (held-after h pieces) piece

@@ -1,4 +1,4 @@
-// Reads a session from standard input and writes its answers to standard output.
+// The program: standard input is a session, standard output its answers.
 ghost use mathlib.Core.Path.{_≡_};
 ghost use Prim.Native.Nat.{_+_, _*_, _≤_};
 ghost use lib.ListN.{length, take, drop};
@@ -79,7 +79,7 @@ fn turn(bench: Bench, buf: &mut [u8], kept: usize, out: &mut [u8]) -> Went
     }
 }
 
-// A proved loop has to end, and nothing says that the input does: the turns are counted down from a number that no run uses up.
+// The count of turns is there for the prover alone: it wants every loop to end, and input need not.
 fn main() {
     let mut buf = [0u8; 65536];
     let mut out = [0u8; 196621];

@@ -54,7 +54,7 @@ module _ {S : Type 0} (clock : S → S) (s : S) (top low : ℕ) (first : ℕ →
 
 module _ {S : Type 0} {clock : S → S} {s : S} {top low : ℕ} {first : ℕ → S} {again : ℕ → ℕ → S}
     (T : Turns clock s top low first again) where
-  -- n clocks that do not pass zero
+  -- too few clocks to come to zero
   pub after-short : (n : ℕ) → n ≤ top → after n clock s ≡ first (top - n)
   unfolding after
   after-short zero h = rw sub-zero (sym (T .start))

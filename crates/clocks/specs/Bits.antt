@@ -5,7 +5,7 @@ use lib.Dec.{eqb}
 use lib.Bits.{bitAnd, bitOr}
 use Rattle.clocks.specs.Clocks.{if_then_else_}
 
--- whether bit k of x is set
+-- bit k of x
 unfoldable pub bit : ℕ → ℕ → Bool
 bit k x = eqb (x / 2 ^ k % 2) 1
 

@@ -22,7 +22,7 @@ soonerOf Never b = b
 soonerOf (In x) Never = In x
 soonerOf (In x) (In y) = if leb x y then In x else In y
 
--- looking ahead: the first of the n numbers from k on at which the test holds, and never where there is none
+-- looking ahead through n numbers from k on: the first that passes the test, or never if none does
 unfoldable pub firstFrom : ℕ → ℕ → (ℕ → Bool) → Forecast
 firstFrom zero k p = Never
 firstFrom (suc n) k p = if p k then In k else firstFrom n (suc k) p

@@ -56,7 +56,7 @@ pub fn choose16(test: bool, x: u16, y: u16) -> u16
     if test { x } else { y }
 }
 
-// Whether bit k of x is set; a byte has none above 7.
+// Bit k of x; a byte has none above 7.
 pub fn bit(k: u8, x: u8) -> bool
     ensures { λ r. ⌜ r ≡ bitOf k x ⌝ }
 {

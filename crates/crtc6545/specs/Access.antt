@@ -46,16 +46,17 @@ writeOf a x v =
       frame = v .frame;
     }
 
--- an address above 1 is refused with 3, a form of R8 that is not allowed with 4
+-- a write of R8 with a bit set that picks something left out
 abbrev pub refusedForm : ℕ → ℕ → Crtc → Bool
 refusedForm a x v = eqb a 1 && eqb (v .address) 8 && not (allowedR8 x)
 
+-- an address above 1 is refused with 3, a form of R8 that is not allowed with 4
 abbrev pub writeRefusal : ℕ → ℕ → Crtc → ℕ
 writeRefusal a x v = if ltb 1 a then 3 else if refusedForm a x v then 4 else 0
 
 -- ---- reads
 
--- the status has a bit for a pen that was seen, and one for blanking below it
+-- the status: bit 6 (64) pen full, bit 5 (32) blanking
 unfoldable pub statusOf : Crtc → ℕ
 statusOf v = (if v .light .full then 64 else 0) + (if blankingOf (v .registers) (v .frame) then 32 else 0)
 
@@ -76,7 +77,7 @@ dataOf a v = if eqb a 0 then statusOf v else registerOf (v .address) v
 abbrev pub undrivenOf : ℕ → Crtc → Bool
 undrivenOf a v = eqb a 1 && eqb (v .address) 31
 
--- who reads where the pen was has seen it; all other reads leave the record
+-- at address 1 a read of R16 or R17 takes full away; every other read leaves the record
 unfoldable pub readOf : ℕ → Crtc → Crtc
 readOf a v =
     record {

@@ -37,7 +37,7 @@ blinkOf r field =
     if eqb (r .r10 / 32 % 4) 2 then ltb (field % 16) 8 else
     ltb field 16
 
--- the cursor stands here: at its address, on its lines (R10's low five bits to R11), in its mode
+-- the cursor stands here: at its address, on its lines (first in R10's low five bits, last in R11), in its mode
 unfoldable pub markedOf : Registers → Line → Frame → Bool
 markedOf r l f =
     eqb (maOf r l f) (r .r14 * 256 + r .r15)

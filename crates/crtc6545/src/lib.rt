@@ -1,4 +1,4 @@
-// The 6545: the screen's counters, its lines, and the light pen. The record goes in by value and comes back in the answer.
+// The 6545: the screen's counters, its lines, and the light pen. A call takes the record and hands it back inside its answer.
 ghost use mathlib.Core.Path.{_≡_};
 ghost use Rattle.clocks.specs.Clocks.{after};
 ghost use Rattle.crtc6545.specs.Record.{powerUp, resetOf};

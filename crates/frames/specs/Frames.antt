@@ -54,7 +54,7 @@ of45 op (a ∷ b ∷ c ∷ []) = Unknown
 of45 op (a ∷ b ∷ c ∷ d ∷ []) = if eqb op 5 then To45 (Crtc.Run (countOf a b c d)) else Unknown
 of45 op (a ∷ b ∷ c ∷ d ∷ e ∷ s) = Unknown
 
--- the chip is named by the hexadecimal digits of its number: 22, 32 or 45
+-- the chip's byte: 34, 50 and 69 are 22, 32 and 45 in hexadecimal
 abbrev pub ofBytes : List ℕ → Frame
 ofBytes [] = Unknown
 ofBytes (chip ∷ []) = Unknown
@@ -64,6 +64,6 @@ ofBytes (chip ∷ op ∷ s) =
 unfoldable pub checked : List ℕ → Frame
 checked s = if areBytes s then ofBytes s else Unknown
 
--- longer lines are not even looked at
+-- a line of more than 32 characters is no frame, whatever is in it
 unfoldable pub frameOf : List ℕ → Frame
 frameOf l = if leb (length l) 32 then checked (bytesOf l) else Unknown

@@ -11,6 +11,7 @@ use Rattle.clocks.specs.Clocks.{after}
 use Rattle.clocks.specs.Forecasts.{comes}
 use Rattle.clocks.specs.declared.Forecast.{Forecast}
 use Rattle.clocks.specs.declared.Forecast.the-variants.{Never, In}
+use Rattle.clocks.proofs.Clocks.{after-add}
 use Rattle.clocks.proofs.Tests.{both}
 use Rattle.marked.specs.Cases.{Leads}
 use Rattle.marked.specs.Demands.{Every}
@@ -49,8 +50,7 @@ module _ {R : Type 0} (f : R → R) (p : ℕ → R → Bool) where
 
   turn-first : (k : ℕ) (v : R) → after k f (f v) ≡ after (suc k) f v
   unfolding after
-  turn-first zero v = refl
-  turn-first (suc k) v = ap f (turn-first k v)
+  turn-first k v = let e : suc k ≡ 1 + k = omega arith in sym (ap (λ (j : ℕ). after j f v) e ∙ after-add 1 k f v)
 
   along-from : (n m : ℕ) (v : R) → along n m v ≡ true → (k : ℕ) → k ≤ n → p (m + k) (after k f v) ≡ true
   unfolding along after

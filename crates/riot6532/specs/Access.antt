@@ -48,7 +48,7 @@ loaded a x =
 abbrev pub controlled : ℕ → Pa7 → Pa7
 controlled a e = record { flag = e .flag; enable = bit 1 a; rising = bit 0 a }
 
--- address bit 2 parts the ports from the rest, and bit 4 the timer from PA7
+-- bit 2 clear: a port or a direction; set: bit 4 set loads the timer, bit 4 clear sets how PA7 is watched
 unfoldable pub ioWritten : ℕ → ℕ → Io → Io
 ioWritten a x io =
     if not (bit 2 a) then portWritten (a % 4) x io else
@@ -66,11 +66,11 @@ abbrev pub portData : ℕ → Io → ℕ
 portData k io =
     if eqb k 0 then linesOf (io .a) else if eqb k 1 then io .a .ddr else if eqb k 2 then linesOf (io .b) else io .b .ddr
 
--- both flags in one byte, the timer's on top
+-- both flags in one byte: bit 7 (128) the timer's, bit 6 (64) PA7's
 abbrev pub flagsOf : Io → ℕ
 flagsOf io = (if io .timer .flag then 128 else 0) + (if io .pa7 .flag then 64 else 0)
 
--- of what is no port, address bit 0 parts the timer from the flags
+-- bit 2 clear: a port or a direction; set: the timer where bit 0 is clear, the flags where it is set
 unfoldable pub ioData : ℕ → Io → ℕ
 ioData a io = if not (bit 2 a) then portData (a % 4) io else if not (bit 0 a) then io .timer .value else flagsOf io
 

@@ -29,7 +29,7 @@ spent k t =
       enable = t .enable;
     }
 
--- when the timer's flag comes, where it does not stand
+-- the clock at which a lowered flag of the timer comes
 abbrev pub dueOf : Timer → Forecast
 dueOf t = if not (t .expired) then In (countsOf t + 1) else Never
 

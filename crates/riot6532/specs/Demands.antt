@@ -70,7 +70,7 @@ pub data Reached : Riot → Type 0 where
 abbrev pub Refuses-ill : Type 0
 Refuses-ill = (c : Call) (v : Riot) → wellFormed v ≡ false → answerOf c v ≡ refused 1 v
 
--- and no other is
+-- 1 is given to ill-formed records only
 abbrev pub One-only-ill : Type 0
 One-only-ill = (c : Call) (v : Riot) → answerOf c v .refusal ≡ 1 → wellFormed v ≡ false
 
@@ -115,8 +115,8 @@ Forecast-never =
     (v : Riot) (r : Outlook) → Reached v → Foretold v r
     → (r .forecast ≡ Never) ↔ ((j : ℕ) → irqOf (after j clockOf v .io) ≡ false)
 
--- a reached forecast is never or at most 261,121, the first flag of 255 over 1024. A record that is only well formed can stand
--- a whole divider higher: timer 255 with D 1024 and p 1024, which no load and no clock leaves, has 262,144.
+-- a reached forecast is never or at most 261,121, the first flag of 255 over 1024. Well-formed records that no calls reach can stand
+-- a whole divider higher: timer 255 with D 1024 and p 1024, which no load and no clock leaves, comes after 262,144.
 abbrev pub Forecast-bound : Type 0
 Forecast-bound = (v : Riot) (r : Outlook) (d : ℕ) → Reached v → Foretold v r → r .forecast ≡ In d → d ≤ 261121
 

@@ -66,7 +66,8 @@ resetIo io = record { a = silent (io .a); b = silent (io .b); timer = flagged fa
 abbrev pub resetOf : Riot → Riot
 resetOf v = withIo (resetIo (v .io)) v
 
--- at power-up the RAM is empty, the timer is at the top of its slowest count, every outside level is high, and the rest is as after a reset
+-- at power-up every byte of RAM is 0, the timer stands at 255 over 1024 and falls at the first clock, every outside level is high, and
+-- the rest is as after a reset
 abbrev pub powerUp : Riot
 powerUp =
     record {

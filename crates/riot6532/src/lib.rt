@@ -1,4 +1,4 @@
-// The 6532: RAM, two ports, an interval timer and an edge detector on PA7. The record goes in by value and comes back in the answer.
+// The 6532: RAM, two ports, an interval timer and an edge detector on PA7. A call takes the record and hands it back inside its answer.
 ghost use mathlib.Core.Path.{_≡_};
 ghost use Prim.Native.Nat.{_<_, _%_};
 ghost use lib.ListN.{set};
@@ -68,7 +68,7 @@ pub struct Outlook {
 }
 
 impl Riot {
-    // The largest forecast of a record that calls from power-up reach: 255 over 1024, just loaded.
+    // The largest forecast of a reached record: 255 over 1024, just loaded.
     pub const LARGEST_FORECAST: u32 = 261121;
 
     pub const RAM_BYTES: usize = 128;

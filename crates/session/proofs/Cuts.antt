@@ -50,7 +50,7 @@ says-append b (l ∷ x) y =
     ap (λ (r : List ℕ). saysOf b l ++ r) (says-append (nextOf b l) x y)
     ∙ sym (append-assoc (saysOf b l) (saysAll (nextOf b l) x) _)
 
--- no byte of it is an LF
+-- a text without LF
 unfoldable pub Quiet : List ℕ → Type 0
 Quiet [] = Unit {0}
 Quiet (x ∷ l) = (eqb x 10 ≡ false) × Quiet l

@@ -29,7 +29,7 @@ use Rattle.session.specs.declared.After45.{After45}
 use Rattle.session.specs.declared.Stepped.{Stepped}
 use Rattle.session.specs.declared.Fed.{Fed}
 
--- an answer is at most 13 bytes long
+-- no answer is longer than 13 bytes
 pub says-short : (b : Bench) (l : List ℕ) → length (saysOf b l) ≤ 13
 unfolding saysOf
 says-short b l = render-short (stepOf b (frameOf l) .reply)

@@ -1,4 +1,4 @@
--- A session keeps every chip among the records that calls from power-up reach.
+-- Whatever lines come, each chip of the bench stays a reached one.
 use mathlib.Core.Path.{_≡_, refl, sym, ap, _∙_}
 use mathlib.Core.Bool.{Bool, true, false, _&&_, true≢false}
 use mathlib.Core.List.{List, [], _∷_}

@@ -91,11 +91,7 @@ flag-due t k = go (t .pulse) refl ∙ stood-comes (t .flag) (if t .armed && not 
         ∙ flag-after (turns t) (λ u. u .flag) (t .armed) (record { kept = λ k. refl; raised = λ q k. refl }) k
         ∙ rw (p, and-true)
 
--- a count and a clock keep the mode
-pub counted-pulse : (t : T2) → counted t .pulse ≡ t .pulse
-unfolding counted
-counted-pulse t = refl
-
+-- a clock keeps the mode
 pub keeps-mode : (t : T2) → clocked t .pulse ≡ t .pulse
 unfolding clocked counted
 keeps-mode t = picked (λ (u : T2). u .pulse ≡ t .pulse) (t .pulse) refl refl

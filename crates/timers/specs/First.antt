@@ -1,4 +1,4 @@
--- One clock of T1.
+-- T1, the first timer: one clock of it.
 use mathlib.Core.Bool.{Bool, true, false, not, _||_, _&&_}
 use Prim.Native.Nat.{ℕ, _-_}
 use lib.Dec.{eqb}

@@ -1,4 +1,4 @@
--- One count and one clock of T2.
+-- T2, the second timer: one count and one clock of it.
 use mathlib.Core.Bool.{Bool, true, false, not, _||_, _&&_}
 use Prim.Native.Nat.{ℕ}
 use lib.Dec.{eqb}

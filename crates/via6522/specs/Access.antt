@@ -31,7 +31,8 @@ dataOf r v =
     if eqb r 14 then withBit 7 true (v .ier) else
     shownA v
 
--- the flags that a read takes away: those of the port, T1's with its low counter, T2's with its low counter, the shift register's
+-- the flags that a read takes away: those of the port, T1's (64) with its low counter, T2's (32) with its low counter, the shift
+-- register's (4)
 unfoldable pub readClears : ℕ → Via → ℕ
 readClears r v =
     if eqb r 0 then flagsB v else

@@ -83,7 +83,7 @@ Refused-leaves = (c : Call) (v : Via) → (answerOf c v .refusal ≡ 0 → ⊥) 
 abbrev pub Refuses-ill : Type 0
 Refuses-ill = (c : Call) (v : Via) → wellFormed v ≡ false → answerOf c v ≡ refused 1 v
 
--- and no other is
+-- 1 is given to ill-formed records only
 abbrev pub One-only-ill : Type 0
 One-only-ill = (c : Call) (v : Via) → answerOf c v .refusal ≡ 1 → wellFormed v ≡ false
 

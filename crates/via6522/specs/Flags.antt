@@ -15,11 +15,11 @@ irqOf v = shares 8 (v .ifr) (v .ier)
 abbrev pub independent : ℕ → Bool
 independent code = eqb code 1 || eqb code 3
 
--- touching port A takes CA1's flag away, and CA2's with it unless that is independent
+-- an access to port A takes IFR1 away (mask 2), and IFR0 with it (3) unless CA2 is independent
 abbrev pub flagsA : Via → ℕ
 flagsA v = if independent (codeA (v .pcr)) then 2 else 3
 
--- and to port B: CB1's, and CB2's unless it is independent
+-- an access to port B takes IFR4 away (mask 16), and IFR3 with it (24) unless CB2 is independent
 abbrev pub flagsB : Via → ℕ
 flagsB v = if independent (codeB (v .pcr)) then 16 else 24
 

@@ -1,4 +1,4 @@
--- The lines of the ports, and what a read of a port shows.
+-- The lines of both ports, and the byte that a read of one gives.
 use mathlib.Core.Bool.{Bool, true, false, _&&_}
 use Prim.Native.Nat.{ℕ}
 use Rattle.clocks.specs.Clocks.{if_then_else_}

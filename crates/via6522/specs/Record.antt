@@ -24,7 +24,7 @@ allowedCode c = not (eqb c 4 || eqb c 5)
 abbrev pub allowedPcr : ℕ → Bool
 allowedPcr x = allowedCode (codeA x) && allowedCode (codeB x)
 
--- no flag and no enable above the seven, no mode that is left out, a reload to come only at the top, four control levels
+-- no flag and no enable above the seven, no mode that is left out, the reload mark only where T1 reads 65,535, four control levels
 abbrev pub wellFormed : Via → Bool
 wellFormed v =
     ltb (v .ifr) 128

@@ -1,5 +1,5 @@
 // The 6522: two ports with control lines, two timers, a shift register that only holds its byte, and the flags of them all.
-// The record goes in by value and comes back in the answer.
+// A call takes the record and hands it back inside its answer.
 ghost use mathlib.Core.Path.{_≡_};
 ghost use Rattle.clocks.specs.Clocks.{after};
 ghost use Rattle.via6522.specs.Record.{powerUp, resetOf};
