@@ -2,19 +2,19 @@
 use mathlib.Core.Path.{_≡_, refl, sym, ap, _∙_}
 use mathlib.Core.Bool.{Bool, true, false, false≢true, _&&_}
 use mathlib.Core.Logic.{inl, inr}
-use mathlib.Core.List.{List, [], _∷_, _++_, append-nil}
-use Prim.Native.Nat.{ℕ, zero, suc, _+_, _-_, _<_, _≤_}
+use mathlib.Core.List.{List, [], _∷_, _++_}
+use Prim.Native.Nat.{ℕ, _+_, _-_, _≤_}
 use native.Mathlib.Omega.{arith}
 use lib.ListN.{length, take, drop, length-drop}
 use lib.Seq.{take-at, length-take-le}
 use borrow.Rule.Slice.PartMut.{putMid}
 use Rattle.clocks.proofs.Tests.{both}
-use Rattle.session.specs.Pieces.{Held, at-start, held, wrote, Written, Finishes, Piece}
+use Rattle.session.specs.Pieces.{Held, at-start, held, wrote, Finishes, Piece}
 use Rattle.session.specs.declared.Bench.{Bench}
 use Rattle.session.specs.declared.Fed.{Fed}
 use Rattle.session.proofs.Keeping.{drop-take}
 use Rattle.session.proofs.Piecing.{written-within}
-use Rattle.bench.specs.Turns.{holding, Outcome, outcome, Shows, Turned, held-after, Reached}
+use Rattle.bench.specs.Turns.{holding, outcome, Shows, Turned, held-after, Reached}
 use Rattle.bench.specs.declared.Went.{Went}
 
 -- nothing came

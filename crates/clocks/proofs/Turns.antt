@@ -6,11 +6,10 @@ use Prim.Native.Nat.{ℕ, zero, suc, _+_, _-_, _*_, _/_, _%_, _≤_, _<_}
 use native.Mathlib.Nat.{mod-lt, mod-eq-of-lt, mod-self, div-self, div-add-mod, div-eq-of-lt, mul-add-div, mul-add-mod-self-left, zero-mod, zero-div, zero-add, suc-add, sub-zero}
 use native.Mathlib.Decide.{decLt}
 use native.Mathlib.Omega.{arith}
-use lib.Dec.{leb, eqb·suc-zero}
+use lib.Dec.{eqb·suc-zero}
 use borrow.Author.Tests.{lt-leb, le-leb}
 use Rattle.clocks.specs.Clocks.{if_then_else_, after, lower}
 use Rattle.clocks.specs.Forecasts.{comes}
-use Rattle.clocks.specs.declared.Forecast.{Forecast}
 use Rattle.clocks.specs.declared.Forecast.the-variants.{Never, In}
 
 -- one more leaves a quotient and raises the remainder, or raises the quotient and leaves no remainder

@@ -1,5 +1,5 @@
 -- The words that every chip's rules are written with: if, after n clocks, and one less.
-use mathlib.Core.Bool.{Bool, true, false, cond}
+use mathlib.Core.Bool.{Bool, cond}
 use Prim.Native.Nat.{ℕ, zero, suc, _-_}
 use lib.Dec.{eqb}
 

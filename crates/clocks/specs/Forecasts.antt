@@ -1,5 +1,5 @@
 -- When a thing comes to stand: after a number of clocks, or never.
-use mathlib.Core.Bool.{Bool, true, false}
+use mathlib.Core.Bool.{Bool, false}
 use Prim.Native.Nat.{ℕ, zero, suc}
 use lib.Dec.{leb}
 use Rattle.clocks.specs.Clocks.{if_then_else_}

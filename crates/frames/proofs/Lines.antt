@@ -1,5 +1,5 @@
 -- The frame of a line, by its length.
-use mathlib.Core.Path.{_≡_, refl, ap, sym, _∙_}
+use mathlib.Core.Path.{_≡_, refl, ap}
 use mathlib.Core.Bool.{Bool, true, false, _&&_, false≢true}
 use mathlib.Core.List.{List, [], _∷_}
 use Prim.Native.Nat.{ℕ, zero, suc, suc-le-suc, _+_, _*_, _<_, _≤_}
@@ -7,14 +7,13 @@ use native.Mathlib.Decide.{decLt}
 use native.Mathlib.Omega.{arith}
 use native.Mathlib.Numerals.{add-one, add-two}
 use borrow.Author.Tests.{lt-ltb, le-ltb, le-leb, ne-eqb}
-use lib.Dec.{ltb, leb}
+use lib.Dec.{ltb}
 use lib.ListN.{length, getD, drop, drop-of-length-le}
 use lib.Seq.{drop-cons}
 use Rattle.clocks.specs.Clocks.{if_then_else_}
 use Rattle.clocks.proofs.Tests.{both}
 use Rattle.frames.specs.Hex.{valueOf, pairOf}
 use Rattle.frames.specs.Frames.{bytesOf, areBytes, ofBytes, checked, frameOf}
-use Rattle.frames.specs.declared.Frame.{Frame}
 use Rattle.frames.specs.declared.Frame.the-variants.{Unknown}
 use Rattle.frames.proofs.Texts.{either-same}
 

@@ -1,16 +1,13 @@
 -- The frame that a line is.
 use Prim.Native.Nat.{ℕ, _+_, _*_}
-use mathlib.Core.Bool.{Bool, true, false, _&&_}
+use mathlib.Core.Bool.{Bool, true, _&&_}
 use mathlib.Core.List.{List, [], _∷_}
 use lib.Dec.{ltb, leb, eqb}
 use lib.ListN.{length}
 use Rattle.clocks.specs.Clocks.{if_then_else_}
 use Rattle.frames.specs.Hex.{pairOf}
-use Rattle.frames.specs.declared.Call22.{Call22}
 use Rattle.frames.specs.declared.Call22.the-variants as Via
-use Rattle.frames.specs.declared.Call32.{Call32}
 use Rattle.frames.specs.declared.Call32.the-variants as Riot
-use Rattle.frames.specs.declared.Call45.{Call45}
 use Rattle.frames.specs.declared.Call45.the-variants as Crtc
 use Rattle.frames.specs.declared.Frame.{Frame}
 use Rattle.frames.specs.declared.Frame.the-variants.{Unknown, To22, To32, To45}

@@ -1,7 +1,6 @@
 -- Upper-case hexadecimal: what a character and a pair of them are worth, and the characters of a byte.
 use Prim.Native.Nat.{ℕ, _+_, _*_, _-_, _/_, _%_}
 use mathlib.Core.List.{List, [], _∷_}
-use mathlib.Core.Bool.{Bool, true, false}
 use lib.Dec.{ltb}
 use Rattle.clocks.specs.Clocks.{if_then_else_}
 

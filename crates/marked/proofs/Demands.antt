@@ -1,6 +1,6 @@
 -- The statement of specs/Demands.antt, proved by one test that computes.
 use mathlib.Core.Path.{_≡_, refl}
-use mathlib.Core.Bool.{Bool, true, false}
+use mathlib.Core.Bool.{Bool, true}
 use Rattle.clocks.specs.Clocks.{after}
 use Rattle.clocks.specs.Bits.{bit, withBit, withSet, withClear, shares}
 use Rattle.timers.specs.First as First

@@ -1,7 +1,6 @@
 -- The outcome of the 6532: a test of it by when its timer's flag is due, and why a record that passes it shows the outcome.
 use mathlib.Core.Path.{_≡_, ap, ap₂, _∙_}
 use mathlib.Core.Bool.{Bool, true, false, not, _&&_, _||_, or-false}
-use Prim.Native.Nat.{ℕ}
 use borrow.Author.Tests.{not-true}
 use Rattle.clocks.specs.Forecasts.{comes}
 use Rattle.clocks.specs.declared.Forecast.the-variants.{In}
@@ -11,7 +10,7 @@ use Rattle.riot6532.specs.Closed.{dueOf}
 use Rattle.riot6532.specs.declared.Riot.{Riot}
 use Rattle.riot6532.proofs.Lines.{timer-after}
 use Rattle.riot6532.proofs.Runs.{flag-due}
-use Rattle.marked.specs.Cases.{flag32, Outcome32, timer-flag-at, Shows32}
+use Rattle.marked.specs.Cases.{Outcome32, timer-flag-at, Shows32}
 use Rattle.marked.proofs.Tests.{same, same-comes}
 
 abbrev pub passes32 : Outcome32 → Riot → Bool

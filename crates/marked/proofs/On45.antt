@@ -1,6 +1,6 @@
 -- The outcomes of the 6545, each tested by computing its clocks one by one.
 use mathlib.Core.Path.{_≡_}
-use mathlib.Core.Bool.{Bool, true, false, _&&_}
+use mathlib.Core.Bool.{Bool, true, _&&_}
 use Prim.Native.Nat.{ℕ, _*_, _/_, _%_}
 use lib.Dec.{eqb}
 use borrow.Author.Tests.{eqb-true}

@@ -2,7 +2,7 @@
 use mathlib.Core.Path.{_≡_}
 use mathlib.Core.List.{List, [], _∷_}
 use lib.ListN.{length}
-use Rattle.marked.specs.Cases.{Case, Holds}
+use Rattle.marked.specs.Cases.{Holds}
 use Rattle.marked.specs.Table.{table}
 
 -- P holds of every entry of a list

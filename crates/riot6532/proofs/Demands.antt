@@ -1,32 +1,29 @@
 -- The statements of specs/Demands.antt, proved.
-use mathlib.Core.Path.{_≡_, refl, sym, ap, ap₂, _∙_}
+use mathlib.Core.Path.{_≡_, refl, sym, ap, _∙_}
 use mathlib.Core.Bool.{Bool, true, false, not, _&&_, _||_, or-true}
 use mathlib.Core.Logic.{_⊎_, _↔_, inl, inr, ⊎-elim}
-use Prim.Native.Nat.{ℕ, zero, suc, _+_, _-_, _*_, _<_, _≤_, zero-le}
+use Prim.Native.Nat.{ℕ, _+_, _<_, zero-le}
 use native.Mathlib.Omega.{arith}
-use Rattle.clocks.specs.Clocks.{if_then_else_, after}
-use Rattle.clocks.specs.Forecasts.{comes}
-use Rattle.clocks.specs.declared.Forecast.{Forecast}
-use Rattle.clocks.specs.declared.Forecast.the-variants.{Never, In}
+use Rattle.clocks.specs.Clocks.{after}
+use Rattle.clocks.specs.declared.Forecast.the-variants.{In}
 use Rattle.clocks.proofs.Clocks.{run-calls}
 use Rattle.clocks.proofs.Tests.{both, either, picked, fails}
 use Rattle.clocks.proofs.Forecasts.{comes-one, told-least, told-never, AtMost, most-gated, most-in}
 use Rattle.clocks.proofs.Bits.{bit-merge}
-use Rattle.riot6532.specs.Record.{wellFormed, powerUp, resetOf}
+use Rattle.riot6532.specs.Record.{wellFormed}
 use Rattle.riot6532.specs.Ports.{irqOf}
 use Rattle.riot6532.specs.Clock.{clockOf}
-use Rattle.riot6532.specs.Answers.{accepted, refused, judged, Foretold}
+use Rattle.riot6532.specs.Answers.{accepted, refused, Foretold}
 use Rattle.riot6532.specs.Closed.{countsOf, forecastOf}
 use Rattle.riot6532.specs.Demands
-use Rattle.riot6532.specs.Demands.{Call, reset, read, write, pins, clock, run, forecast, givesOf, leavesOf, answerOf, Reached}
-use Rattle.riot6532.specs.declared.Io.{Io}
+use Rattle.riot6532.specs.Demands.{Call, clock, run, forecast, givesOf, leavesOf, answerOf}
 use Rattle.riot6532.specs.declared.Riot.{Riot}
 use Rattle.riot6532.specs.declared.Answer.{Answer}
 use Rattle.riot6532.specs.declared.Outlook.{Outlook}
 use Rattle.riot6532.proofs.Formed.{formed, product}
 use Rattle.riot6532.proofs.Judged.{accepts, refuses}
 use Rattle.riot6532.proofs.Lines.{line-after}
-use Rattle.riot6532.proofs.Kept.{Sound, counts-most, run-well, well-kept, reached-sound}
+use Rattle.riot6532.proofs.Kept.{counts-most, run-well, well-kept, reached-sound}
 
 pub refuses-ill : Demands.Refuses-ill
 refuses-ill c v w = refuses v (givesOf c v) (leavesOf c v) w

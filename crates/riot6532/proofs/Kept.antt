@@ -20,7 +20,7 @@ use Rattle.riot6532.specs.declared.Timer.{Timer}
 use Rattle.riot6532.specs.declared.Io.{Io}
 use Rattle.riot6532.specs.declared.Riot.{Riot}
 use Rattle.riot6532.specs.declared.Answer.{Answer}
-use Rattle.riot6532.proofs.Formed.{Formed, formed, well}
+use Rattle.riot6532.proofs.Formed.{formed, well}
 use Rattle.riot6532.proofs.Clocked.{spent-falls, waits, passes, falls}
 
 -- one clock of a well-formed timer, whatever its value, in one of four ways

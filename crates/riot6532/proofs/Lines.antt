@@ -7,14 +7,13 @@ use Rattle.clocks.specs.Clocks.{if_then_else_, after, lower}
 use Rattle.clocks.specs.Forecasts.{comes}
 use Rattle.clocks.specs.declared.Forecast.{Forecast}
 use Rattle.clocks.specs.declared.Forecast.the-variants.{Never, In}
-use Rattle.clocks.proofs.Clocks.{Part, part-after, after-keeps}
+use Rattle.clocks.proofs.Clocks.{part-after, after-keeps}
 use Rattle.clocks.proofs.Forecasts.{now-comes, gate-comes}
 use Rattle.riot6532.specs.Record.{wellTimed, withIo, withTimer}
 use Rattle.riot6532.specs.Ports.{irqOf}
 use Rattle.riot6532.specs.Clock.{moved, passed, clocked, clockOf}
 use Rattle.riot6532.specs.Closed.{countsOf, dueOf, forecastOf}
 use Rattle.riot6532.specs.declared.Timer.{Timer}
-use Rattle.riot6532.specs.declared.Io.{Io}
 use Rattle.riot6532.specs.declared.Riot.{Riot}
 use Rattle.riot6532.proofs.Runs.{flag-due}
 

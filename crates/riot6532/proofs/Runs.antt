@@ -1,8 +1,8 @@
 -- The timer is a counter that passes zero, at every divider: n of its clocks, and when its flag comes.
-use mathlib.Core.Path.{_≡_, refl, sym, ap, _∙_}
+use mathlib.Core.Path.{_≡_, refl, ap, _∙_}
 use mathlib.Core.Bool.{Bool, true, false, not, _||_}
 use mathlib.Core.Logic.{_⊎_, inl, inr}
-use Prim.Native.Nat.{ℕ, zero, suc, _+_, _-_, _*_, _/_, _%_, _<_, _≤_}
+use Prim.Native.Nat.{ℕ, suc, _+_, _-_, _*_, _/_, _%_, _<_, _≤_}
 use native.Mathlib.Nat.{zero-mod, zero-div, mul-comm}
 use native.Mathlib.Omega.{arith}
 use lib.Dec.{eqb, eqb·suc-zero}
@@ -10,7 +10,7 @@ use lib.Arith.{digits-div, digits-mod}
 use borrow.Author.Tests.{ne-eqb}
 use Rattle.clocks.specs.Clocks.{if_then_else_, after}
 use Rattle.clocks.specs.Forecasts.{comes}
-use Rattle.clocks.proofs.Turns.{Within, Turned, one-more, Turns, after-short, after-past, Raises, flag-after}
+use Rattle.clocks.proofs.Turns.{Within, Turned, one-more, Turns, after-short, after-past, flag-after}
 use Rattle.riot6532.specs.Record.{wellTimed}
 use Rattle.riot6532.specs.Clock.{moved, passed, clocked}
 use Rattle.riot6532.specs.Closed.{countsOf, fallen, spent, dueOf}

@@ -1,5 +1,5 @@
 -- What an address names, what a read of it gives and leaves, and what a write to it leaves.
-use mathlib.Core.Bool.{Bool, true, false, not}
+use mathlib.Core.Bool.{false, not}
 use Prim.Native.Nat.{ℕ, _+_, _%_}
 use lib.Dec.{eqb}
 use lib.ListN.{getD, set}
@@ -7,7 +7,6 @@ use Rattle.clocks.specs.Clocks.{if_then_else_}
 use Rattle.clocks.specs.Bits.{bit}
 use Rattle.riot6532.specs.Record.{withRam, withIo, withTimer, withPa7, flagged}
 use Rattle.riot6532.specs.Ports.{linesOf}
-use Rattle.riot6532.specs.declared.Port.{Port}
 use Rattle.riot6532.specs.declared.Timer.{Timer}
 use Rattle.riot6532.specs.declared.Pa7.{Pa7}
 use Rattle.riot6532.specs.declared.Io.{Io}

@@ -1,6 +1,6 @@
 -- What a call gives back.
 use mathlib.Core.Path.{_≡_}
-use mathlib.Core.Bool.{Bool, true, false}
+use mathlib.Core.Bool.{true, false}
 use Prim.Native.Nat.{ℕ}
 use Rattle.clocks.specs.Clocks.{if_then_else_, after}
 use Rattle.clocks.specs.Forecasts.{comes}

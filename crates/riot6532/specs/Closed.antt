@@ -1,5 +1,5 @@
 -- What the code computes in place of single clocks. No promise of a public entry rests on it: proofs/ shows that the clocks lead there.
-use mathlib.Core.Bool.{Bool, true, false, not, _||_, _&&_}
+use mathlib.Core.Bool.{true, not, _||_, _&&_}
 use Prim.Native.Nat.{ℕ, _+_, _-_, _*_, _/_, _%_}
 use Rattle.clocks.specs.Clocks.{if_then_else_}
 use Rattle.clocks.specs.declared.Forecast.{Forecast}

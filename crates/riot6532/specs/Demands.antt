@@ -1,11 +1,10 @@
 -- What the three demands ask of the 6532 beyond the promise of each entry. proofs/Demands.antt has a proof of each statement, under its name in small letters.
 use mathlib.Core.Path.{_≡_}
-use mathlib.Core.Bool.{Bool, true, false}
+use mathlib.Core.Bool.{true, false}
 use mathlib.Core.Logic.{_⊎_, _↔_}
 use Prim.Native.Nat.{ℕ, _<_, _≤_}
 use Rattle.clocks.specs.Clocks.{if_then_else_, after}
 use Rattle.clocks.specs.Bits.{bit}
-use Rattle.clocks.specs.declared.Forecast.{Forecast}
 use Rattle.clocks.specs.declared.Forecast.the-variants.{Never, In}
 use Rattle.riot6532.specs.Record.{wellFormed, powerUp, resetOf}
 use Rattle.riot6532.specs.Access.{dataOf, readOf, writeOf}

@@ -3,8 +3,7 @@ use mathlib.Core.Path.{_≡_, refl, sym, ap, ap₂, _∙_}
 use mathlib.Core.Bool.{Bool, true, false}
 use Prim.Native.Nat.{ℕ, _<_}
 use Rattle.clocks.specs.Clocks.{after}
-use Rattle.clocks.specs.Forecasts.{numberOf, comes}
-use Rattle.clocks.specs.declared.Forecast.{Forecast}
+use Rattle.clocks.specs.Forecasts.{numberOf}
 use Rattle.clocks.proofs.Forecasts.{first-is}
 use Rattle.via6522.specs.Record as Via6522
 use Rattle.via6522.specs.Flags as Flags22

@@ -1,13 +1,12 @@
 -- A reply is one line: no LF before its last byte.
-use mathlib.Core.Path.{_≡_, refl, ap, sym, _∙_}
-use mathlib.Core.Bool.{Bool, true, false}
+use mathlib.Core.Path.{_≡_, refl, ap, _∙_}
+use mathlib.Core.Bool.{false}
 use mathlib.Core.List.{List, [], _∷_, _++_, append-assoc}
-use Prim.Native.Nat.{ℕ, suc, _+_, _/_, _%_, _≤_}
+use Prim.Native.Nat.{ℕ, suc, _/_, _%_}
 use native.Mathlib.Omega.{arith}
 use lib.Dec.{eqb, ltb}
 use lib.ListN.{length}
 use borrow.Author.Tests.{ne-eqb}
-use Rattle.clocks.specs.Clocks.{if_then_else_}
 use Rattle.clocks.proofs.Tests.{picked}
 use Rattle.frames.specs.Hex.{digitOf, hexOf}
 use Rattle.frames.specs.Frames.{frameOf}
@@ -18,7 +17,7 @@ use Rattle.session.specs.Steps.{powerUp, stepOf}
 use Rattle.session.specs.Sessions.{ended, open-line, linesOf, nextOf, saysOf, saysAll, session}
 use Rattle.session.specs.Demands
 use Rattle.session.specs.declared.Bench.{Bench}
-use Rattle.session.proofs.Cuts.{ended-append, open-append, Quiet, quiet-ended, quiet-open, quiet-append}
+use Rattle.session.proofs.Cuts.{ended-append, open-append, Quiet, quiet-ended, quiet-append}
 
 -- a text without LF, and then one
 record Line (x : List ℕ) : Type 0 where

@@ -2,18 +2,17 @@
 use mathlib.Core.Path.{_≡_, refl, ap, sym, _∙_}
 use mathlib.Core.Bool.{Bool, true, false}
 use mathlib.Core.List.{List, [], _∷_, _++_, append-assoc, append-nil}
-use Prim.Native.Nat.{ℕ, zero, suc, _+_, _<_, _≤_}
+use Prim.Native.Nat.{ℕ, zero, suc, _<_, _≤_}
 use native.Mathlib.Decide.{decLe}
 use native.Mathlib.Omega.{arith}
 use lib.Dec.{eqb}
 use lib.ListN.{length, take, length-append}
 use lib.Seq.{take-all, length-take-le}
 use Rattle.clocks.specs.Clocks.{if_then_else_}
-use Rattle.frames.specs.Frames.{frameOf}
 use Rattle.frames.specs.declared.Frame.{Frame}
 use Rattle.frames.specs.Replies.{render}
 use Rattle.frames.proofs.Texts.{long-unknown}
-use Rattle.session.specs.Steps.{powerUp, stepOf}
+use Rattle.session.specs.Steps.{stepOf}
 use Rattle.session.specs.Sessions.{ended, open-line, last-line, nextOf, saysOf, nextAll, saysAll, session}
 use Rattle.session.specs.Pieces.{Held, at-start, held, wrote, written-for, joined}
 use Rattle.session.specs.declared.Bench.{Bench}

@@ -1,17 +1,15 @@
 -- The loop of `feed`: what holds at each byte, how it goes on, and what it comes to.
 use mathlib.Core.Path.{_≡_, refl, ap, ap₂, sym, _∙_}
-use mathlib.Core.Bool.{Bool, true, false}
 use mathlib.Core.List.{List, [], _∷_, _++_, append-assoc, append-nil}
 use Prim.Native.Nat.{ℕ, suc, _+_, _-_, _<_, _≤_}
 use native.Mathlib.Nat.{sub-zero, zero-add, add-zero}
 use native.Mathlib.Numerals.{add-one}
 use native.Mathlib.Omega.{arith}
-use lib.Dec.{eqb, leb}
-use lib.ListN.{length, getD, take, drop, length-drop, length-append}
+use lib.ListN.{length, getD, take, drop, length-drop}
 use lib.Seq.{drop-cons, take-suc, getD-drop, drop-length, length-take-le}
 use borrow.Author.Tests.{eq-eqb, ne-eqb, le-leb, lt-leb}
 use Rattle.frames.specs.Frames.{frameOf}
-use Rattle.frames.specs.Replies.{render, Appended, Put}
+use Rattle.frames.specs.Replies.{render, Put}
 use Rattle.frames.proofs.Texts.{render-short, drop-later}
 use Rattle.frames.specs.declared.Call22.{Call22}
 use Rattle.frames.specs.declared.Call32.{Call32}
@@ -21,13 +19,12 @@ use Rattle.frames.specs.declared.Frame.the-variants.{Unknown, To22, To32, To45}
 use Rattle.frames.specs.declared.Reply.the-variants.{Refused}
 use Rattle.session.specs.Steps.{on22, on32, on45, stepOf}
 use Rattle.session.specs.Sessions.{ended, nextOf, saysOf}
-use Rattle.session.specs.Pieces.{Taken, before, takes, Written, Feeds}
+use Rattle.session.specs.Pieces.{Taken, before, takes, Feeds}
 use Rattle.session.specs.declared.Bench.{Bench}
 use Rattle.session.specs.declared.After22.{After22}
 use Rattle.session.specs.declared.After32.{After32}
 use Rattle.session.specs.declared.After45.{After45}
 use Rattle.session.specs.declared.Stepped.{Stepped}
-use Rattle.session.specs.declared.Fed.{Fed}
 
 -- no answer is longer than 13 bytes
 pub says-short : (b : Bench) (l : List ℕ) → length (saysOf b l) ≤ 13

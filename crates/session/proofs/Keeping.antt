@@ -1,6 +1,6 @@
 -- The loop that moves what is kept of a line to the front of a buffer, and the answer to a last line.
 use mathlib.Core.Path.{_≡_, refl, ap, sym, _∙_}
-use mathlib.Core.List.{List, [], _∷_, _++_, append-nil}
+use mathlib.Core.List.{List, [], _∷_, append-nil}
 use mathlib.Core.Logic.{_⊎_, inl, inr}
 use Prim.Native.Nat.{ℕ, zero, suc, _+_, _-_, _<_, _≤_, min}
 use native.Mathlib.Nat.{sub-zero, zero-sub, suc-sub-suc, zero-min, min-zero, suc-min-suc}
@@ -9,10 +9,10 @@ use native.Mathlib.Omega.{arith}
 use lib.ListN.{length, getD, take, drop, set, length-drop, length-set}
 use lib.Seq.{take-suc, take-suc-set, getD-drop, drop-set-lt, drop-drop, take-nil}
 use Rattle.frames.specs.Frames.{frameOf}
-use Rattle.frames.specs.Replies.{render, Appended, Put}
+use Rattle.frames.specs.Replies.{render, Put}
 use Rattle.session.specs.Steps.{stepOf}
-use Rattle.session.specs.Sessions.{last-line, saysOf, saysAll}
-use Rattle.session.specs.Pieces.{Written, Finishes, Moved, Keeps}
+use Rattle.session.specs.Sessions.{saysOf, saysAll}
+use Rattle.session.specs.Pieces.{Finishes, Moved, Keeps}
 use Rattle.session.specs.declared.Bench.{Bench}
 use Rattle.session.specs.declared.Stepped.{Stepped}
 

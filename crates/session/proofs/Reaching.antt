@@ -1,8 +1,8 @@
 -- Whatever lines come, each chip of the bench stays a reached one.
 use mathlib.Core.Path.{_≡_, refl, sym, ap, _∙_}
-use mathlib.Core.Bool.{Bool, true, false, _&&_, true≢false}
+use mathlib.Core.Bool.{Bool, true, false, true≢false}
 use mathlib.Core.List.{List, [], _∷_}
-use Prim.Native.Nat.{ℕ, _+_, _*_, _<_}
+use Prim.Native.Nat.{ℕ, _<_}
 use native.Mathlib.Omega.{arith}
 use lib.Dec.{eqb, ltb, leb}
 use lib.ListN.{length}
@@ -34,7 +34,7 @@ use Rattle.via6522.specs.declared.Via.{Via}
 use Rattle.riot6532.specs.declared.Riot.{Riot}
 use Rattle.crtc6545.specs.declared.Crtc.{Crtc}
 use Rattle.crtc6545.specs.declared.Answer as Answer45
-use Rattle.session.specs.Steps.{replied, shown, on22, on32, on45, powerUp, stepOf}
+use Rattle.session.specs.Steps.{replied, on22, on32, on45, powerUp, stepOf}
 use Rattle.session.specs.Sessions.{nextOf, nextAll}
 use Rattle.session.specs.Demands
 use Rattle.session.specs.declared.Bench.{Bench}

@@ -1,19 +1,18 @@
 -- As many lines as there is room for, and what is left of the file then.
-use mathlib.Core.Path.{_≡_, refl, ap, ap₂, sym, _∙_}
+use mathlib.Core.Path.{_≡_, refl, ap, sym, _∙_}
 use mathlib.Core.Bool.{Bool, true, false}
 use mathlib.Core.List.{List, [], _∷_, _++_, append-assoc, append-nil}
-use Prim.Native.Nat.{ℕ, zero, suc, _+_, _-_, _*_, _<_, _≤_, zero-le}
-use native.Mathlib.Decide.{decLe, decLt}
+use Prim.Native.Nat.{ℕ, suc, _+_, _-_, _*_, _<_, _≤_, zero-le}
+use native.Mathlib.Decide.{decLt}
 use native.Mathlib.Omega.{arith}
 use lib.Dec.{eqb, leb}
 use lib.ListN.{length, drop, length-append}
-use borrow.Author.Tests.{le-leb, lt-leb}
+use borrow.Author.Tests.{le-leb}
 use Rattle.clocks.specs.Clocks.{if_then_else_}
 use Rattle.clocks.proofs.Tests.{picked}
 use Rattle.frames.specs.Hex.{hexOf}
 use Rattle.frames.specs.Frames.{frameOf}
 use Rattle.frames.specs.Replies.{render}
-use Rattle.frames.specs.declared.Frame.{Frame}
 use Rattle.frames.proofs.Texts.{short-unknown}
 use Rattle.session.specs.Steps.{stepOf}
 use Rattle.session.specs.Sessions.{ended, open-line, nextOf, saysOf, nextAll, saysAll}

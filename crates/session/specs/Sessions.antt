@@ -1,9 +1,7 @@
 -- A session: the lines of a file, and what is written for them.
-use Prim.Native.Nat.{ℕ, _+_, _-_}
-use mathlib.Core.Bool.{Bool, true, false}
+use Prim.Native.Nat.{ℕ}
 use mathlib.Core.List.{List, [], _∷_, _++_}
-use lib.Dec.{eqb, leb}
-use lib.ListN.{length}
+use lib.Dec.{eqb}
 use Rattle.clocks.specs.Clocks.{if_then_else_}
 use Rattle.frames.specs.Frames.{frameOf}
 use Rattle.frames.specs.Replies.{render}

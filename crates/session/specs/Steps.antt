@@ -1,5 +1,5 @@
 -- One frame on the bench: the chip that it names answers, and its answer is the reply.
-use mathlib.Core.Bool.{Bool, true, false}
+use mathlib.Core.Bool.{Bool}
 use Prim.Native.Nat.{ℕ, _+_}
 use lib.Dec.{eqb}
 use Rattle.clocks.specs.Clocks.{if_then_else_, after}

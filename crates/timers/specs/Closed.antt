@@ -1,5 +1,5 @@
 -- What the code computes in place of single clocks. No promise of a public function rests on it: proofs/ shows that the clocks lead there.
-use mathlib.Core.Bool.{Bool, true, false, not, _||_, _&&_}
+use mathlib.Core.Bool.{not, _||_, _&&_}
 use Prim.Native.Nat.{ℕ, suc, _+_}
 use lib.Dec.{eqb}
 use Rattle.clocks.specs.Clocks.{if_then_else_, after}

@@ -1,6 +1,5 @@
 -- T2, the second timer: one count and one clock of it.
-use mathlib.Core.Bool.{Bool, true, false, not, _||_, _&&_}
-use Prim.Native.Nat.{ℕ}
+use mathlib.Core.Bool.{not, _||_, _&&_}
 use lib.Dec.{eqb}
 use Rattle.clocks.specs.Clocks.{if_then_else_, lower}
 use Rattle.timers.specs.declared.T2.{T2}

@@ -2,14 +2,14 @@
 use mathlib.Core.Path.{_≡_, refl, sym, ap, _∙_}
 use mathlib.Core.Bool.{Bool, true, false, not, _&&_, _||_, false≢true}
 use mathlib.Core.Logic.{_↔_}
-use Prim.Native.Nat.{ℕ, zero, suc, _+_, _<_, _≤_}
+use Prim.Native.Nat.{ℕ, _+_, _<_, _≤_}
 use native.Mathlib.Decide.{decLt, ℕ-discrete}
 use native.Mathlib.Omega.{arith}
 use lib.Dec.{eqb, ltb}
 use borrow.Author.Tests.{le-ltb}
 use Rattle.clocks.specs.Clocks.{if_then_else_, after}
-use Rattle.clocks.specs.Bits.{bit, merge, withBit, shares}
-use Rattle.clocks.specs.Forecasts.{comes, soonerOf}
+use Rattle.clocks.specs.Bits.{bit, merge, withBit}
+use Rattle.clocks.specs.Forecasts.{soonerOf}
 use Rattle.clocks.specs.declared.Forecast.{Forecast}
 use Rattle.clocks.specs.declared.Forecast.the-variants.{Never, In}
 use Rattle.clocks.proofs.Clocks.{run-calls}
@@ -19,7 +19,7 @@ use Rattle.clocks.proofs.Bits.{bit-high, bit-merge, bit-with, shares-found, sha
 use Rattle.timers.proofs.Firsts as First
 use Rattle.timers.proofs.Seconds as Second
 use Rattle.timers.specs.Closed.{topOf}
-use Rattle.via6522.specs.Record.{wellFormed, powerUp, resetOf}
+use Rattle.via6522.specs.Record.{wellFormed, resetOf}
 use Rattle.via6522.specs.Flags.{irqOf}
 use Rattle.via6522.specs.Ports.{linesA, linesB}
 use Rattle.via6522.specs.Clock.{timersOf, clockOf}
@@ -27,7 +27,7 @@ use Rattle.via6522.specs.Closed.{stands, soonest}
 use Rattle.via6522.specs.Answers.{refusal, readRefusal, writeRefusal, pinsRefusal, refused, Foretold}
 use Rattle.via6522.specs.Access.{refusedForm}
 use Rattle.via6522.specs.Demands
-use Rattle.via6522.specs.Demands.{Call, reset, read, write, pins, clock, run, forecast, meets, leavesOf, answerOf, Reached}
+use Rattle.via6522.specs.Demands.{Call, reset, read, write, pins, clock, run, forecast, meets, leavesOf, answerOf}
 use Rattle.via6522.specs.declared.Via.{Via}
 use Rattle.via6522.specs.declared.Answer.{Answer}
 use Rattle.via6522.specs.declared.Outlook.{Outlook}

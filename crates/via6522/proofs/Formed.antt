@@ -1,8 +1,8 @@
 -- What the test of a well-formed record says, and the test from what it says.
 use mathlib.Core.Path.{_≡_, refl}
-use mathlib.Core.Bool.{Bool, true, false, not, _&&_, _||_, false≢true}
+use mathlib.Core.Bool.{Bool, true, false, not, _||_, false≢true}
 use Prim.Native.Nat.{ℕ, _<_}
-use lib.Dec.{eqb, ltb}
+use lib.Dec.{eqb}
 use borrow.Author.Tests.{eqb-true, eq-eqb, ltb-true, lt-ltb}
 use Rattle.clocks.proofs.Tests.{both}
 use Rattle.via6522.specs.Record.{allowedAcr, allowedPcr, wellFormed}

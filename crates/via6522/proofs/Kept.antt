@@ -1,17 +1,16 @@
 -- What every accepted call keeps of a record: that it is well formed, and the ranges that its types give.
-use mathlib.Core.Path.{_≡_, refl, sym, ap, _∙_, subst}
+use mathlib.Core.Path.{_≡_, refl}
 use mathlib.Core.Bool.{Bool, true, false, not, _&&_, _||_, false≢true, true≢false}
-use Prim.Native.Nat.{ℕ, zero, suc, _+_, _-_, _*_, _/_, _%_, _^_, _<_, _≤_}
-use native.Mathlib.Nat.{mod-lt}
+use Prim.Native.Nat.{ℕ, suc, _+_, _*_, _/_, _%_, _<_}
 use native.Mathlib.Decide.{ℕ-discrete}
 use native.Mathlib.Omega.{arith}
-use lib.Dec.{eqb, ltb, lit<, lit≤}
-use lib.Bits.{bitAnd, bitOr, or-lt}
+use lib.Dec.{eqb, ltb, lit<}
+use lib.Bits.{or-lt}
 use borrow.Author.Tests.{ltb-false, not-false, eq-eqb, ne-eqb}
-use Rattle.clocks.specs.Clocks.{if_then_else_, after, lower}
+use Rattle.clocks.specs.Clocks.{if_then_else_, after}
 use Rattle.clocks.specs.Bits.{bit, withSet, withClear, withBit}
 use Rattle.clocks.proofs.Clocks.{after-keeps}
-use Rattle.clocks.proofs.Tests.{picked, both}
+use Rattle.clocks.proofs.Tests.{picked}
 use Rattle.timers.specs.First as First
 use Rattle.timers.specs.Second as Second
 use Rattle.timers.specs.Pair as Pair
@@ -20,13 +19,12 @@ use Rattle.timers.specs.declared.T2.{T2}
 use Rattle.timers.specs.declared.Timers.{Timers}
 use Rattle.via6522.specs.Record.{allowedAcr, allowedPcr, wellFormed, powerUp, resetOf}
 use Rattle.via6522.specs.Flags.{cleared}
-use Rattle.via6522.specs.Pins.{edgeCA1, edgeCA2, edgeCB1, edgeCB2, flagged, pulse, counted2, pulsed, settled, pinsOf}
-use Rattle.via6522.specs.Access.{dataOf, readClears, readOf, writeClears, enabled, stored, writeOf, refusedForm}
+use Rattle.via6522.specs.Pins.{edgeCA1, edgeCA2, edgeCB1, edgeCB2, flagged, pulse, pulsed, settled, pinsOf}
+use Rattle.via6522.specs.Access.{readClears, readOf, writeClears, enabled, stored, writeOf, refusedForm}
 use Rattle.via6522.specs.Clock.{timersOf, withTimers, clockOf}
 use Rattle.via6522.specs.Answers.{refusal, readRefusal, writeRefusal, pinsRefusal, accepted, refused, judged}
 use Rattle.via6522.specs.Demands.{Call, reset, read, write, pins, clock, run, forecast, Typed, meets, givesOf, leavesOf, answerOf, Reached, at-power-up, by}
 use Rattle.via6522.specs.declared.Via.{Via}
-use Rattle.via6522.specs.declared.Answer.{Answer}
 use Rattle.via6522.proofs.Formed.{Formed, formed, well}
 
 -- ---- seven bits stay seven bits

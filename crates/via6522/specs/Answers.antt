@@ -1,6 +1,6 @@
 -- Refusals, and what a call gives back.
 use mathlib.Core.Path.{_≡_}
-use mathlib.Core.Bool.{Bool, true, false}
+use mathlib.Core.Bool.{true, false}
 use Prim.Native.Nat.{ℕ}
 use lib.Dec.{eqb, ltb}
 use Rattle.clocks.specs.Clocks.{if_then_else_, after}

@@ -1,5 +1,4 @@
 -- The timer pair of the chip, and one clock.
-use mathlib.Core.Bool.{Bool, true, false}
 use Rattle.clocks.specs.Bits.{bit, withBit}
 use Rattle.timers.specs.Pair as Pair
 use Rattle.timers.specs.declared.Timers.{Timers}

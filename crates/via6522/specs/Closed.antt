@@ -1,5 +1,5 @@
 -- What the code computes in place of looking ahead. No promise of a public entry rests on it: proofs/ shows that the clocks lead there.
-use mathlib.Core.Bool.{Bool, true, false}
+use mathlib.Core.Bool.{Bool, false}
 use Rattle.clocks.specs.Clocks.{if_then_else_}
 use Rattle.clocks.specs.Bits.{bit, withBit, shares}
 use Rattle.clocks.specs.Forecasts.{soonerOf}

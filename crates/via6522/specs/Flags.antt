@@ -1,5 +1,5 @@
 -- The interrupt line, and the flags that go with the ports.
-use mathlib.Core.Bool.{Bool, true, false, _||_}
+use mathlib.Core.Bool.{Bool, _||_}
 use Prim.Native.Nat.{ℕ}
 use lib.Dec.{eqb}
 use Rattle.clocks.specs.Clocks.{if_then_else_}

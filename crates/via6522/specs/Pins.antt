@@ -1,6 +1,6 @@
 -- New levels outside: edges on the control lines, kept port lines, and pulses on PB6. Every edge is from the levels that stood before.
-use mathlib.Core.Bool.{Bool, true, false, not, _&&_}
-use Prim.Native.Nat.{ℕ, _^_}
+use mathlib.Core.Bool.{Bool, false, not, _&&_}
+use Prim.Native.Nat.{ℕ}
 use lib.Dec.{ltb}
 use Rattle.clocks.specs.Clocks.{if_then_else_}
 use Rattle.clocks.specs.Bits.{bit, withSet}

@@ -4,7 +4,6 @@ use Prim.Native.Nat.{_≤_}
 use native.Mathlib.Omega.{arith}
 use lib.ListN.{length, take}
 use borrow.Author.Tests.{not-false}
-use Rattle.session.specs.Steps.{powerUp}
 use Rattle.session.specs.declared.Bench.{Bench}
 use Rattle.bench.specs.Turns.{holding, Reached}
 use Rattle.bench.proofs.Turning.{reached-on}

@@ -1,7 +1,6 @@
 use borrow.Author.Needs.{needs}
 use mathlib.Core.Path.{sym}
 use native.Mathlib.Omega.{arith}
-use Prim.Native.Nat.{_<_, _^_}
 use Rattle.clocks.specs.Bits.{bit}
 use Rattle.clocks.proofs.Bits.{bit-high}
 use Rattle.clocks.proofs.bit.Statement.{statement}

@@ -1,6 +1,6 @@
 use Prim.Native.Nat.{ℕ}
 use borrow.Author.Needs.{needs}
-use mathlib.Core.Path.{_∙_, ap, ap₂}
+use mathlib.Core.Path.{_∙_, ap₂}
 use Rattle.riot6532.specs.Record.{withIo}
 use Rattle.riot6532.specs.Access.{dataOf, readOf}
 use Rattle.riot6532.specs.Answers.{judged}

@@ -1,5 +1,5 @@
 use borrow.Author.Needs.{needs}
-use Prim.Native.Nat.{_+_, _-_, _*_, _≤_, _<_}
+use Prim.Native.Nat.{_+_, _-_, _*_, _≤_}
 use native.Mathlib.Nat.{mod-lt}
 use native.Mathlib.Omega.{arith}
 use Rattle.riot6532.proofs.Formed.{formed, some, value-fits}

@@ -1,10 +1,5 @@
 use borrow.Author.Needs.{needs}
-use mathlib.Core.Path.{_∙_, ap}
 use Rattle.session.specs.Steps.{stepOf}
-use Rattle.session.specs.declared.After22.{After22}
-use Rattle.session.specs.declared.After32.{After32}
-use Rattle.session.specs.declared.After45.{After45}
-use Rattle.session.specs.declared.Stepped.{Stepped}
 use Rattle.session.proofs.Bench.step.Statement.{statement}
 use Rattle.session.proofs.Bench.step.Tie as tie
 

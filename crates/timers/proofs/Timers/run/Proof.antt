@@ -1,6 +1,5 @@
 use borrow.Author.Needs.{needs}
 use mathlib.Core.Path.{_∙_, sym}
-use Rattle.timers.specs.declared.Timers.{Timers}
 use Rattle.timers.proofs.Pairs.{each}
 use Rattle.timers.proofs.Timers.run.Statement.{statement}
 use Rattle.timers.proofs.Timers.run.Tie as tie

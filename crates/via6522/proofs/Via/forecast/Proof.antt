@@ -1,7 +1,7 @@
 use Prim.Native.Nat.{ℕ}
 use borrow.Author.Needs.{needs}
 use mathlib.Core.Bool.{true≢false}
-use mathlib.Core.Path.{_≡_, _∙_, sym, refl, ap}
+use mathlib.Core.Path.{_∙_, sym, refl, ap}
 use Rattle.via6522.specs.Answers.{judged, refusal}
 use Rattle.via6522.proofs.Via.forecast.Statement.{statement}
 use Rattle.via6522.proofs.Via.forecast.Tie as tie
