@@ -13,10 +13,10 @@ use Rattle.clocks.proofs.Bits.{bit-merge}
 use Rattle.riot6532.specs.Record.{wellFormed}
 use Rattle.riot6532.specs.Ports.{irqOf}
 use Rattle.riot6532.specs.Clock.{clockOf}
-use Rattle.riot6532.specs.Answers.{accepted, refused, Foretold}
+use Rattle.riot6532.specs.Answers.{refused, Foretold}
 use Rattle.riot6532.specs.Closed.{countsOf, forecastOf}
 use Rattle.riot6532.specs.Demands
-use Rattle.riot6532.specs.Demands.{Call, clock, run, forecast, givesOf, leavesOf, answerOf}
+use Rattle.riot6532.specs.Demands.{clock, run, forecast, givesOf, leavesOf, answerOf}
 use Rattle.riot6532.specs.declared.Riot.{Riot}
 use Rattle.riot6532.specs.declared.Answer.{Answer}
 use Rattle.riot6532.specs.declared.Outlook.{Outlook}
@@ -28,15 +28,15 @@ use Rattle.riot6532.proofs.Kept.{counts-most, run-well, well-kept, reac
 pub refuses-ill : Demands.Refuses-ill
 refuses-ill c v w = refuses v (givesOf c v) (leavesOf c v) w
 
--- an accepted call gives the lines of the record that it leaves
-accepts-as : (c : Call) (v : Riot) → wellFormed v ≡ true → answerOf c v ≡ accepted (givesOf c v) (leavesOf c v)
-accepts-as c v w = accepts v (givesOf c v) (leavesOf c v) w
-
 pub accepts-well : Demands.Accepts-well
-accepts-well c v w = ap (λ (r : Answer). r .refusal) (accepts-as c v w)
+accepts-well c v w = accepts v (givesOf c v) (leavesOf c v) w
 
 pub one-only-ill : Demands.One-only-ill
-one-only-ill c v e = fails (wellFormed v) (λ w. omega (arith, e, accepts-well c v w))
+one-only-ill c v e = fails (wellFormed v) (λ w. omega (arith, e, ap (λ (r : Answer). r .refusal) (accepts-well c v w)))
+
+pub refused-leaves : Demands.Refused-leaves
+refused-leaves c v n =
+    refuses-ill c v (fails (wellFormed v) (λ w. n (ap (λ (r : Answer). r .refusal) (accepts-well c v w))))
 
 pub power-up-well : Demands.Power-up-well
 power-up-well = refl
@@ -71,7 +71,7 @@ raised a b c d = (there, back)
 pub line-exact : Demands.Line-exact
 line-exact c v r =
     let io = leavesOf c v .io in
-    rw (accepts-as c v (reached-well v r)) (raised (io .timer .flag) (io .timer .enable) (io .pa7 .flag) (io .pa7 .enable))
+    rw (accepts-well c v (reached-well v r)) (raised (io .timer .flag) (io .timer .enable) (io .pa7 .flag) (io .pa7 .enable))
 
 module _ (v : Riot) (r : Outlook) (w : wellFormed v ≡ true) (f : Foretold v r) where
   -- the forecast is the closed form
@@ -109,10 +109,10 @@ forecast-bound v r d reached f e =
 pub run-single : Demands.Run-single
 run-single n v =
     run-calls wellFormed clockOf (λ u. answerOf clock u .riot)
-    (λ u w. ap (λ (r : Answer). r .riot) (accepts-as clock u w))
+    (λ u w. ap (λ (r : Answer). r .riot) (accepts-well clock u w))
     (λ u w. ap (λ (r : Answer). r .riot) (refuses-ill clock u w))
     run-well n v (answerOf (run n) v .riot)
-    (λ w. ap (λ (r : Answer). r .riot) (accepts-as (run n) v w))
+    (λ w. ap (λ (r : Answer). r .riot) (accepts-well (run n) v w))
     (λ w. ap (λ (r : Answer). r .riot) (refuses-ill (run n) v w))
 
 pub forecast-one : Demands.Forecast-one

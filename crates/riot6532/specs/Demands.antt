@@ -10,7 +10,7 @@ use Rattle.riot6532.specs.Record.{wellFormed, powerUp, resetOf}
 use Rattle.riot6532.specs.Access.{dataOf, readOf, writeOf}
 use Rattle.riot6532.specs.Ports.{linesOf, pinsOf, irqOf}
 use Rattle.riot6532.specs.Clock.{clockOf}
-use Rattle.riot6532.specs.Answers.{refused, judged, Foretold}
+use Rattle.riot6532.specs.Answers.{accepted, refused, judged, Foretold}
 use Rattle.riot6532.specs.declared.Port.{Port}
 use Rattle.riot6532.specs.declared.Io.{Io}
 use Rattle.riot6532.specs.declared.Riot.{Riot}
@@ -65,7 +65,7 @@ pub data Reached : Riot → Type 0 where
   at-power-up : Reached powerUp
   by : {v : Riot} (c : Call) → Typed c → Reached v → Reached (answerOf c v .riot)
 
--- demand 1: a call of a record that is not well formed is refused with 1, and every other call is accepted
+-- demand 1: a call of a record that is not well formed is refused with 1
 abbrev pub Refuses-ill : Type 0
 Refuses-ill = (c : Call) (v : Riot) → wellFormed v ≡ false → answerOf c v ≡ refused 1 v
 
@@ -73,8 +73,13 @@ Refuses-ill = (c : Call) (v : Riot) → wellFormed v ≡ false → answerOf c v 
 abbrev pub One-only-ill : Type 0
 One-only-ill = (c : Call) (v : Riot) → answerOf c v .refusal ≡ 1 → wellFormed v ≡ false
 
+-- every other call is accepted
 abbrev pub Accepts-well : Type 0
-Accepts-well = (c : Call) (v : Riot) → wellFormed v ≡ true → answerOf c v .refusal ≡ 0
+Accepts-well = (c : Call) (v : Riot) → wellFormed v ≡ true → answerOf c v ≡ accepted (givesOf c v) (leavesOf c v)
+
+-- a refused call gives its number and hands the record back
+abbrev pub Refused-leaves : Type 0
+Refused-leaves = (c : Call) (v : Riot) → (answerOf c v .refusal ≡ 0 → ⊥) → answerOf c v ≡ refused 1 v
 
 -- power-up is well formed, a reset leaves it as it is, and every accepted call keeps a record well formed
 abbrev pub Power-up-well : Type 0

@@ -99,7 +99,7 @@ meets-none (run n) v w a = rw w
 meets-none forecast v w a = rw w
 
 pub accepts-well : Demands.Accepts-well
-accepts-well c v w a = ap (λ (r : Answer). r .refusal) (accepts c v (meets-none c v w a))
+accepts-well c v w a = accepts c v (meets-none c v w a)
 
 pub power-up-well : Demands.Power-up-well
 power-up-well = refl

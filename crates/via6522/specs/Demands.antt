@@ -13,7 +13,7 @@ use Rattle.via6522.specs.Ports.{linesA, linesB}
 use Rattle.via6522.specs.Pins.{pinsOf}
 use Rattle.via6522.specs.Access.{dataOf, readOf, writeOf, refusedForm}
 use Rattle.via6522.specs.Clock.{clockOf}
-use Rattle.via6522.specs.Answers.{refusal, readRefusal, writeRefusal, pinsRefusal, refused, judged, Foretold}
+use Rattle.via6522.specs.Answers.{refusal, readRefusal, writeRefusal, pinsRefusal, accepted, refused, judged, Foretold}
 use Rattle.via6522.specs.declared.Via.{Via}
 use Rattle.via6522.specs.declared.Answer.{Answer}
 use Rattle.via6522.specs.declared.Outlook.{Outlook}
@@ -98,7 +98,8 @@ Allowed forecast = Unit {0}
 
 -- and with such operands every well-formed record is taken
 abbrev pub Accepts-well : Type 0
-Accepts-well = (c : Call) (v : Via) → wellFormed v ≡ true → Allowed c → answerOf c v .refusal ≡ 0
+Accepts-well =
+    (c : Call) (v : Via) → wellFormed v ≡ true → Allowed c → answerOf c v ≡ accepted (givesOf c v) (leavesOf c v)
 
 -- power-up is well formed, a reset leaves it as it is, and every accepted call keeps a record well formed
 abbrev pub Power-up-well : Type 0
