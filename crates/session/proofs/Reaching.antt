@@ -144,56 +144,7 @@ record Reached (b : Bench) : Type 0 where
   riot : Calls32.Reached (b .riot)
   crtc : Calls45.Reached (b .crtc)
 
-left22 : (v : Via) (c : Call22) → on22 v c .via ≡ Calls22.answerOf (as22 c) v .via
-unfolding on22 as22
-left22 v Via.Reset = refl
-left22 v (Via.Write r x) = refl
-left22 v (Via.Read r) = refl
-left22 v (Via.Pins pa pb control) = refl
-left22 v (Via.Run n) = refl
-left22 v Via.Forecast = refl
-
-left32 : (v : Riot) (c : Call32) → on32 v c .riot ≡ Calls32.answerOf (as32 c) v .riot
-unfolding on32 as32
-left32 v Riot.Reset = refl
-left32 v (Riot.Write a x) = refl
-left32 v (Riot.Read a) = refl
-left32 v (Riot.Pins pa pb) = refl
-left32 v (Riot.Run n) = refl
-left32 v Riot.Forecast = refl
-
-left45 : (v : Crtc) (c : Call45) → on45 v c .crtc ≡ Calls45.answerOf (as45 c) v .crtc
-unfolding on45 as45
-left45 v Crtc.Reset = refl
-left45 v (Crtc.Write a x) = refl
-left45 v (Crtc.Read a) = ap (λ (r : Answer45.Answer). r .crtc) (Proved45.read-answers a v)
-left45 v (Crtc.Pins pen) = refl
-left45 v (Crtc.Run n) = refl
-
-reached-step : (b : Bench) (f : Frame) → Typed f → Reached b → Reached (stepOf b f .bench)
-unfolding stepOf
-reached-step b Unknown t r = r
-reached-step b (To22 c) t r =
-    record { via = rw (left22 (b .via) c) (Calls22.by (as22 c) t (r .via)); riot = r .riot; crtc = r .crtc }
-reached-step b (To32 c) t r =
-    record { via = r .via; riot = rw (left32 (b .riot) c) (Calls32.by (as32 c) t (r .riot)); crtc = r .crtc }
-reached-step b (To45 c) t r =
-    record { via = r .via; riot = r .riot; crtc = rw (left45 (b .crtc) c) (Calls45.by (as45 c) t (r .crtc)) }
-
-reached-all : (b : Bench) (ls : List (List ℕ)) → Reached b → Reached (nextAll b ls)
-unfolding nextOf
-reached-all b [] r = r
-reached-all b (l ∷ ls) r = reached-all (nextOf b l) ls (reached-step b (frameOf l) (typed l) r)
-
-reached : (ls : List (List ℕ)) → Reached (nextAll powerUp ls)
-unfolding powerUp
-reached ls = reached-all powerUp ls (record { via = Calls22.at-power-up; riot = Calls32.at-power-up; crtc = Calls45.at-power-up })
-
-pub chips-reached : Demands.Chips-reached
-chips-reached ls = let r = reached ls in (r .via, r .riot, r .crtc)
-
--- ---- a reply's refusal is the answer's
-
+-- the refusal that a reply says, 0 for none
 number : Reply → ℕ
 number (Refused n) = n
 number (Done l) = 0
@@ -208,44 +159,76 @@ number-replied n r z = go (eqb n 0) refl
     go true e = z ∙ sym (eqb-true n 0 e)
     go false e = refl
 
-number22 : (v : Via) (c : Call22) → number (on22 v c .reply) ≡ Calls22.answerOf (as22 c) v .refusal
+-- what a frame leaves of its chip is what the call leaves, and the refusal is the call's
+sent22 :
+    (v : Via) (c : Call22)
+    → (on22 v c .via ≡ Calls22.answerOf (as22 c) v .via) × (number (on22 v c .reply) ≡ Calls22.answerOf (as22 c) v .refusal)
 unfolding on22 as22 number
-number22 v Via.Reset = number-replied _ _ refl
-number22 v (Via.Write r x) = number-replied _ _ refl
-number22 v (Via.Read r) = number-replied _ _ refl
-number22 v (Via.Pins pa pb control) = number-replied _ _ refl
-number22 v (Via.Run n) = number-replied _ _ refl
-number22 v Via.Forecast = number-replied _ _ refl
+sent22 v Via.Reset = (refl, number-replied _ _ refl)
+sent22 v (Via.Write r x) = (refl, number-replied _ _ refl)
+sent22 v (Via.Read r) = (refl, number-replied _ _ refl)
+sent22 v (Via.Pins pa pb control) = (refl, number-replied _ _ refl)
+sent22 v (Via.Run n) = (refl, number-replied _ _ refl)
+sent22 v Via.Forecast = (refl, number-replied _ _ refl)
 
-number32 : (v : Riot) (c : Call32) → number (on32 v c .reply) ≡ Calls32.answerOf (as32 c) v .refusal
+sent32 :
+    (v : Riot) (c : Call32)
+    → (on32 v c .riot ≡ Calls32.answerOf (as32 c) v .riot) × (number (on32 v c .reply) ≡ Calls32.answerOf (as32 c) v .refusal)
 unfolding on32 as32 number
-number32 v Riot.Reset = number-replied _ _ refl
-number32 v (Riot.Write a x) = number-replied _ _ refl
-number32 v (Riot.Read a) = number-replied _ _ refl
-number32 v (Riot.Pins pa pb) = number-replied _ _ refl
-number32 v (Riot.Run n) = number-replied _ _ refl
-number32 v Riot.Forecast = number-replied _ _ refl
+sent32 v Riot.Reset = (refl, number-replied _ _ refl)
+sent32 v (Riot.Write a x) = (refl, number-replied _ _ refl)
+sent32 v (Riot.Read a) = (refl, number-replied _ _ refl)
+sent32 v (Riot.Pins pa pb) = (refl, number-replied _ _ refl)
+sent32 v (Riot.Run n) = (refl, number-replied _ _ refl)
+sent32 v Riot.Forecast = (refl, number-replied _ _ refl)
 
-number45 : (v : Crtc) (c : Call45) → number (on45 v c .reply) ≡ Calls45.answerOf (as45 c) v .refusal
+sent45 :
+    (v : Crtc) (c : Call45)
+    → (on45 v c .crtc ≡ Calls45.answerOf (as45 c) v .crtc) × (number (on45 v c .reply) ≡ Calls45.answerOf (as45 c) v .refusal)
 unfolding on45 as45 number
-number45 v Crtc.Reset = number-replied _ _ refl
-number45 v (Crtc.Write a x) = number-replied _ _ refl
-number45 v (Crtc.Read a) =
-    number-replied _ _ (picked (λ (r : Reply). number r ≡ 0) (Answers45.readingOf a v .undriven) refl refl)
-    ∙ ap (λ (r : Answer45.Answer). r .refusal) (Proved45.read-answers a v)
-number45 v (Crtc.Pins pen) = number-replied _ _ refl
-number45 v (Crtc.Run n) = number-replied _ _ refl
+sent45 v Crtc.Reset = (refl, number-replied _ _ refl)
+sent45 v (Crtc.Write a x) = (refl, number-replied _ _ refl)
+sent45 v (Crtc.Read a) =
+    let r = Proved45.read-answers a v in (
+      ap (λ (r : Answer45.Answer). r .crtc) r,
+      number-replied _ _ (picked (λ (r : Reply). number r ≡ 0) (Answers45.readingOf a v .undriven) refl refl)
+          ∙ ap (λ (r : Answer45.Answer). r .refusal) r,
+    )
+sent45 v (Crtc.Pins pen) = (refl, number-replied _ _ refl)
+sent45 v (Crtc.Run n) = (refl, number-replied _ _ refl)
 
--- and it is never 1: that would be an ill-formed record
+reached-step : (b : Bench) (f : Frame) → Typed f → Reached b → Reached (stepOf b f .bench)
+unfolding stepOf
+reached-step b Unknown t r = r
+reached-step b (To22 c) t r =
+    record { via = rw (sent22 (b .via) c .0) (Calls22.by (as22 c) t (r .via)); riot = r .riot; crtc = r .crtc }
+reached-step b (To32 c) t r =
+    record { via = r .via; riot = rw (sent32 (b .riot) c .0) (Calls32.by (as32 c) t (r .riot)); crtc = r .crtc }
+reached-step b (To45 c) t r =
+    record { via = r .via; riot = r .riot; crtc = rw (sent45 (b .crtc) c .0) (Calls45.by (as45 c) t (r .crtc)) }
+
+reached-all : (b : Bench) (ls : List (List ℕ)) → Reached b → Reached (nextAll b ls)
+unfolding nextOf
+reached-all b [] r = r
+reached-all b (l ∷ ls) r = reached-all (nextOf b l) ls (reached-step b (frameOf l) (typed l) r)
+
+reached : (ls : List (List ℕ)) → Reached (nextAll powerUp ls)
+unfolding powerUp
+reached ls = reached-all powerUp ls (record { via = Calls22.at-power-up; riot = Calls32.at-power-up; crtc = Calls45.at-power-up })
+
+pub chips-reached : Demands.Chips-reached
+chips-reached ls = let r = reached ls in (r .via, r .riot, r .crtc)
+
+-- a reply never says 1: that would be an ill-formed record
 not-1 : (b : Bench) (f : Frame) → Reached b → number (stepOf b f .reply) ≡ 1 → ⊥
 unfolding stepOf number
 not-1 b Unknown r e = omega (arith, e)
 not-1 b (To22 c) r e =
-    true≢false (sym (Proved22.reached-well (b .via) (r .via)) ∙ Proved22.one-only-ill (as22 c) (b .via) (sym (number22 (b .via) c) ∙ e))
+    true≢false (sym (Proved22.reached-well (b .via) (r .via)) ∙ Proved22.one-only-ill (as22 c) (b .via) (sym (sent22 (b .via) c .1) ∙ e))
 not-1 b (To32 c) r e =
-    true≢false (sym (Proved32.reached-well (b .riot) (r .riot)) ∙ Proved32.one-only-ill (as32 c) (b .riot) (sym (number32 (b .riot) c) ∙ e))
+    true≢false (sym (Proved32.reached-well (b .riot) (r .riot)) ∙ Proved32.one-only-ill (as32 c) (b .riot) (sym (sent32 (b .riot) c .1) ∙ e))
 not-1 b (To45 c) r e =
-    true≢false (sym (Proved45.reached-well (b .crtc) (r .crtc)) ∙ Proved45.one-only-ill (as45 c) (b .crtc) (sym (number45 (b .crtc) c) ∙ e))
+    true≢false (sym (Proved45.reached-well (b .crtc) (r .crtc)) ∙ Proved45.one-only-ill (as45 c) (b .crtc) (sym (sent45 (b .crtc) c .1) ∙ e))
 
 pub never-1 : Demands.Never-1
 unfolding number

@@ -30,6 +30,7 @@ drop-behind (y ∷ l) s x n = let e : length (y ∷ l) + 1 + n ≡ suc (length l
 -- of s behind l, which has come of its first line: the taken and what is left come to the whole
 record Goes (b : Bench) (l s : List ℕ) (t : Taken) : Type 0 where
   text : saysAll b (ended l s) ≡ t .text ++ saysAll (t .bench) (ended [] (drop (t .used) (l ++ s)))
+  bench : nextAll b (ended l s) ≡ nextAll (t .bench) (ended [] (drop (t .used) (l ++ s)))
   rest : open-line l s ≡ open-line [] (drop (t .used) (l ++ s))
 
 -- nothing taken
@@ -40,7 +41,7 @@ open-behind : (l s : List ℕ) → Quiet l → open-line [] (l ++ s) ≡ open-li
 open-behind l s q = open-append [] l s ∙ rw (quiet-open [] l q)
 
 goes-none : (b : Bench) (l s : List ℕ) → Quiet l → Goes b l s (record { bench = b; used = 0; text = [] })
-goes-none b l s q = record { text = ap (saysAll b) (sym (behind l s q)); rest = sym (open-behind l s q) }
+goes-none b l s q = record { text = ap (saysAll b) (sym (behind l s q)); bench = ap (nextAll b) (sym (behind l s q)); rest = sym (open-behind l s q) }
 
 -- a line taken before others
 goes-line :
@@ -49,6 +50,7 @@ goes-line :
 goes-line b l s x t e g =
     record {
       text = rw (e, drop-behind l s x (t .used)) (ap (λ (y : List ℕ). saysOf b l ++ y) (g .text) ∙ sym (append-assoc (saysOf b l) (t .text) _));
+      bench = rw (e, drop-behind l s x (t .used)) (g .bench);
       rest = rw (e, drop-behind l s x (t .used)) (g .rest);
     }
 
@@ -57,7 +59,7 @@ goes-byte :
     (b : Bench) (l s : List ℕ) (x : ℕ) (t : Taken) → eqb x 10 ≡ false → Goes b (l ++ x ∷ []) s t → Goes b l (x ∷ s) t
 goes-byte b l s x t e g =
     let a : (l ++ x ∷ []) ++ s ≡ l ++ x ∷ s = append-assoc l (x ∷ []) s in
-    record { text = rw e (rw a at (g .text)); rest = rw e (rw a at (g .rest)) }
+    record { text = rw e (rw a at (g .text)); bench = rw e (rw a at (g .bench)); rest = rw e (rw a at (g .rest)) }
 
 goes : (l s : List ℕ) → Quiet l → (room : ℕ) (b : Bench) → Goes b l s (takes room b (ended l s))
 unfolding Quiet
@@ -75,7 +77,7 @@ goes l (x ∷ s) q room b =
 
 pub taking-goes-on : Demands.Taking-goes-on
 unfolding Quiet
-taking-goes-on room b s = let g = goes [] s tt room b in (g .text, g .rest)
+taking-goes-on room b s = let g = goes [] s tt room b in (g .text, g .bench, g .rest)
 
 -- a line is taken where there is one, and room
 takes-some : (room : ℕ) (b : Bench) (ls : List (List ℕ)) → 13 ≤ room → (ls ≡ [] → ⊥) → 0 < takes room b ls .used

@@ -33,6 +33,8 @@ Taking-goes-on =
     → (saysAll b (ended [] s)
     ≡ takes room b (ended [] s) .text
     ++ saysAll (takes room b (ended [] s) .bench) (ended [] (drop (takes room b (ended [] s) .used) s)))
+    × (nextAll b (ended [] s)
+    ≡ nextAll (takes room b (ended [] s) .bench) (ended [] (drop (takes room b (ended [] s) .used) s)))
     × (open-line [] s ≡ open-line [] (drop (takes room b (ended [] s) .used) s))
 
 -- where 13 bytes are free and a whole line is there, something is taken
