@@ -1,0 +1,270 @@
+-- What holds of every chip, from the few facts that are its own.
+use mathlib.Core.Path.{_≡_, refl, sym, ap, ap₂, _∙_}
+use mathlib.Core.Bool.{Bool, true, false}
+use mathlib.Core.Logic.{_↔_}
+use Prim.Native.Nat.{ℕ, suc, _+_, _-_, _≤_}
+use native.Mathlib.Omega.{arith}
+use native.Mathlib.Decide.{decLe, ℕ-discrete}
+use lib.Dec.{eqb, leb}
+use borrow.Author.Tests.{eq-eqb, ne-eqb, le-leb, lt-leb}
+use Rattle.clocks.specs.Clocks.{if_then_else_, after}
+use Rattle.clocks.specs.Forecasts.{comes}
+use Rattle.clocks.specs.declared.Forecast.{Forecast}
+use Rattle.clocks.specs.declared.Forecast.the-variants.{Never, In}
+use Rattle.clocks.proofs.Tests.{on-true, on-false}
+use Rattle.clocks.proofs.Clocks.{after-add, after-keeps, run-calls}
+use Rattle.clocks.proofs.Forecasts.{comes-one, told-least, told-never}
+use Rattle.chips.specs.Chips
+use Rattle.chips.specs.Chips.{Chip, first, answer, next, Reached, at-power-up, by, Answers, Clocked, Runs, Lined, line, Foretold, Lines}
+
+-- ---- an answer, where the number that applies first is known
+
+module _ (C : Chip) (c : C .Call) (v : C .State) (k : ℕ) (e : k ≡ first C c v) where
+  pub accepts : k ≡ 0 → answer C c v ≡ C .accepted (C .gives c v) (C .leaves c v)
+  unfolding answer
+  accepts z = on-true (eqb (first C c v) 0) _ _ (eq-eqb (first C c v) 0 (sym e ∙ z))
+
+  pub refuses : (k ≡ 0 → ⊥) → answer C c v ≡ C .refused k v
+  unfolding answer
+  refuses z =
+      on-false (eqb (first C c v) 0) _ _ (ne-eqb (first C c v) 0 (λ q. z (e ∙ q)))
+      ∙ ap (λ (j : ℕ). C .refused j v) (sym e)
+
+-- ---- what a chip shows of itself: where its answers have what they show, that no operand is refused with 1, and that calls keep it well formed
+pub record Lawful (C : Chip) : Type 0 where
+  pub number-accepted : (d : ℕ) (v : C .State) → C .number (C .accepted d v) ≡ 0
+  pub number-refused : (n : ℕ) (v : C .State) → C .number (C .refused n v) ≡ n
+  pub left-accepted : (d : ℕ) (v : C .State) → C .left (C .accepted d v) ≡ v
+  pub left-refused : (n : ℕ) (v : C .State) → C .left (C .refused n v) ≡ v
+  pub other : (c : C .Call) (v : C .State) → C .asks c v ≡ 1 → ⊥
+  pub starts : C .well (C .powerUp) ≡ true
+  pub keeps : (c : C .Call) (v : C .State) → C .Typed c → C .asks c v ≡ 0 → C .well v ≡ true → C .well (C .leaves c v) ≡ true
+
+module _ (C : Chip) (S : Lawful C) where
+  pub refuses-ill : Chips.Refuses-ill C
+  refuses-ill c v w = refuses C c v 1 (sym (on-false (C .well v) (C .asks c v) 1 w)) (λ z. omega (arith, z))
+
+  operands-first : (c : C .Call) (v : C .State) → C .well v ≡ true → C .asks c v ≡ first C c v
+  operands-first c v w = sym (on-true (C .well v) (C .asks c v) 1 w)
+
+  pub refuses-operands : Chips.Refuses-operands C
+  refuses-operands c v w z = refuses C c v (C .asks c v) (operands-first c v w) z
+
+  pub accepts-well : Chips.Accepts-well C
+  accepts-well c v w z = accepts C c v (C .asks c v) (operands-first c v w) z
+
+  -- a call is refused or accepted: what holds of each answer that there can be holds of the answer
+  module _ (c : C .Call) (v : C .State) (P : C .Answer → Type 0) where
+    pub by-refusal :
+        (C .well v ≡ false → P (C .refused 1 v))
+        → (C .well v ≡ true → (C .asks c v ≡ 0 → ⊥) → P (C .refused (C .asks c v) v))
+        → (C .well v ≡ true → C .asks c v ≡ 0 → P (C .accepted (C .gives c v) (C .leaves c v)))
+        → P (answer C c v)
+    by-refusal ill operands fine = go (C .well v) refl (ℕ-discrete (C .asks c v) 0)
+      where
+        go : (b : Bool) → C .well v ≡ b → Dec (C .asks c v ≡ 0) → P (answer C c v)
+        go false w d = rw (refuses-ill c v w) (ill w)
+        go true w (yes e) = rw (accepts-well c v w e) (fine w e)
+        go true w (no e) = rw (refuses-operands c v w e) (operands w e)
+
+  one-only-ill : Chips.One-only-ill C
+  one-only-ill c v =
+      by-refusal c v (λ r. C .number r ≡ 1 → C .well v ≡ false)
+      (λ w e. w)
+      (λ w z e. absurd (S .other c v (sym (S .number-refused (C .asks c v) v) ∙ e)))
+      (λ w z e. absurd (omega (arith, sym (S .number-accepted (C .gives c v) (C .leaves c v)) ∙ e)))
+
+  refused-leaves : Chips.Refused-leaves C
+  refused-leaves c v =
+      by-refusal c v (λ r. (C .number r ≡ 0 → ⊥) → r ≡ C .refused (C .number r) v)
+      (λ w z. ap (λ (k : ℕ). C .refused k v) (sym (S .number-refused 1 v)))
+      (λ w n z. ap (λ (k : ℕ). C .refused k v) (sym (S .number-refused (C .asks c v) v)))
+      (λ w n z. absurd (z (S .number-accepted (C .gives c v) (C .leaves c v))))
+
+  -- what accepted calls keep of a record, every call keeps, and every reached record has
+  module _ (P : C .State → Type 0)
+      (keeps : (c : C .Call) (v : C .State) → C .Typed c → C .asks c v ≡ 0 → C .well v ≡ true → P v → P (C .leaves c v)) where
+    pub call-keeps : (c : C .Call) (v : C .State) → C .Typed c → P v → P (next C c v)
+    call-keeps c v t p =
+        by-refusal c v (λ r. P (C .left r))
+        (λ w. rw (S .left-refused 1 v) p)
+        (λ w n. rw (S .left-refused (C .asks c v) v) p)
+        (λ w n. rw (S .left-accepted (C .gives c v) (C .leaves c v)) (keeps c v t n w p))
+
+    pub reached-keeps : P (C .powerUp) → (v : C .State) → Reached C v → P v
+    reached-keeps start v at-power-up = start
+    reached-keeps start v (by {v = u} c t r) = call-keeps c u t (reached-keeps start u r)
+
+  keeps-well : Chips.Keeps-well C
+  keeps-well c v t =
+      by-refusal c v (λ r. C .number r ≡ 0 → C .well (C .left r) ≡ true)
+      (λ w z. absurd (omega (arith, sym (S .number-refused 1 v) ∙ z)))
+      (λ w n z. absurd (n (sym (S .number-refused (C .asks c v) v) ∙ z)))
+      (λ w n z. rw (S .left-accepted (C .gives c v) (C .leaves c v)) (S .keeps c v t n w))
+
+  pub reached-well : Chips.Reached-well C
+  reached-well = reached-keeps (λ v. C .well v ≡ true) (λ c v t n w p. S .keeps c v t n w) (S .starts)
+
+  pub answers : Answers C
+  answers =
+      record {
+        refuses-ill = refuses-ill;
+        one-only-ill = one-only-ill;
+        refuses-operands = refuses-operands;
+        accepts-well = accepts-well;
+        refused-leaves = refused-leaves;
+        power-up-well = S .starts;
+        keeps-well = keeps-well;
+        reached-well = reached-well;
+      }
+
+  -- what a call leaves of a record that is well formed, and of one that is not
+  pub accepted-leaves : (c : C .Call) (v : C .State) → C .well v ≡ true → C .asks c v ≡ 0 → next C c v ≡ C .leaves c v
+  accepted-leaves c v w z = ap (C .left) (accepts-well c v w z) ∙ S .left-accepted (C .gives c v) (C .leaves c v)
+
+  pub ill-leaves : (c : C .Call) (v : C .State) → C .well v ≡ false → next C c v ≡ v
+  ill-leaves c v w = ap (C .left) (refuses-ill c v w) ∙ S .left-refused 1 v
+
+-- ---- what a clocked chip shows besides: its clock and its runs are accepted, read nothing, and are turns of the rule
+pub record Ticks (C : Chip) (T : Clocked C) : Type 0 where
+  pub clock-asks : (v : C .State) → C .asks (T .clock) v ≡ 0
+  pub clock-gives : (v : C .State) → C .gives (T .clock) v ≡ 0
+  pub clock-leaves : (v : C .State) → C .leaves (T .clock) v ≡ T .rule v
+  pub run-asks : (n : ℕ) (v : C .State) → n ≤ T .longest → C .asks (T .run n) v ≡ 0
+  pub run-gives : (n : ℕ) (v : C .State) → C .gives (T .run n) v ≡ 0
+  pub run-leaves : (n : ℕ) (v : C .State) → C .leaves (T .run n) v ≡ after n (T .rule) v
+  pub keeps : (v : C .State) → C .well v ≡ true → C .well (T .rule v) ≡ true
+
+module _ (C : Chip) (S : Lawful C) (T : Clocked C) (K : Ticks C T) where
+  pub runs-well : (n : ℕ) (v : C .State) → C .well v ≡ true → C .well (after n (T .rule) v) ≡ true
+  runs-well = after-keeps (λ (v : C .State). C .well v ≡ true) (T .rule) (K .keeps)
+
+  -- what a run and a clock show and leave of a well-formed record
+  run-well-shows : (n : ℕ) (v : C .State) → n ≤ T .longest → C .well v ≡ true → answer C (T .run n) v ≡ C .accepted 0 (after n (T .rule) v)
+  run-well-shows n v h w =
+      accepts-well C S (T .run n) v w (K .run-asks n v h) ∙ ap₂ (C .accepted) (K .run-gives n v) (K .run-leaves n v)
+
+  clock-well-shows : (v : C .State) → C .well v ≡ true → answer C (T .clock) v ≡ C .accepted 0 (T .rule v)
+  clock-well-shows v w =
+      accepts-well C S (T .clock) v w (K .clock-asks v) ∙ ap₂ (C .accepted) (K .clock-gives v) (K .clock-leaves v)
+
+  pub run-well-leaves : (n : ℕ) (v : C .State) → n ≤ T .longest → C .well v ≡ true → next C (T .run n) v ≡ after n (T .rule) v
+  run-well-leaves n v h w = ap (C .left) (run-well-shows n v h w) ∙ S .left-accepted 0 (after n (T .rule) v)
+
+  clock-well-leaves : (v : C .State) → C .well v ≡ true → next C (T .clock) v ≡ T .rule v
+  clock-well-leaves v w = ap (C .left) (clock-well-shows v w) ∙ S .left-accepted 0 (T .rule v)
+
+  run-single : Chips.Run-single C T
+  run-single n v h =
+      run-calls (C .well) (T .rule) (next C (T .clock))
+      clock-well-leaves
+      (λ u w. ill-leaves C S (T .clock) u w)
+      runs-well n v (next C (T .run n) v)
+      (λ w. run-well-leaves n v h w)
+      (λ w. ill-leaves C S (T .run n) v w)
+
+  run-shows : Chips.Run-shows C T
+  unfolding after
+  run-shows n v h = go (C .well v) refl
+    where
+      one-less : n ≤ T .longest
+      one-less = omega arith
+
+      go : (t : Bool) → C .well v ≡ t → answer C (T .run (suc n)) v ≡ answer C (T .clock) (after n (next C (T .clock)) v)
+      go true w =
+          run-well-shows (suc n) v h w
+          ∙ sym (clock-well-shows (after n (T .rule) v) (runs-well n v w))
+          ∙ ap (answer C (T .clock)) (sym (run-well-leaves n v one-less w) ∙ run-single n v one-less)
+      go false w =
+          refuses-ill C S (T .run (suc n)) v w
+          ∙ sym (refuses-ill C S (T .clock) v w)
+          ∙ ap (answer C (T .clock)) (sym (ill-leaves C S (T .run n) v w) ∙ run-single n v one-less)
+
+  run-of-none : Chips.Run-of-none C T
+  unfolding after
+  run-of-none v = go (C .well v) refl
+    where
+      go : (t : Bool) → C .well v ≡ t → answer C (T .run 0) v ≡ (if C .well v then C .accepted 0 v else C .refused 1 v)
+      go true w = run-well-shows 0 v (omega arith) w ∙ sym (on-true (C .well v) _ _ w)
+      go false w = refuses-ill C S (T .run 0) v w ∙ sym (on-false (C .well v) _ _ w)
+
+  runs-add : Chips.Runs-add C T
+  runs-add a b v h = go (C .well v) refl
+    where
+      go : (t : Bool) → C .well v ≡ t → answer C (T .run b) (next C (T .run a) v) ≡ answer C (T .run (a + b)) v
+      go true w =
+          ap (answer C (T .run b)) (run-well-leaves a v (omega arith) w)
+          ∙ run-well-shows b (after a (T .rule) v) (omega arith) (runs-well a v w)
+          ∙ ap (C .accepted 0) (sym (after-add a b (T .rule) v))
+          ∙ sym (run-well-shows (a + b) v h w)
+      go false w =
+          ap (answer C (T .run b)) (ill-leaves C S (T .run a) v w)
+          ∙ refuses-ill C S (T .run b) v w
+          ∙ sym (refuses-ill C S (T .run (a + b)) v w)
+
+  pub runs : Runs C T
+  runs = record { run-single = run-single; run-shows = run-shows; run-of-none = run-of-none; runs-add = runs-add }
+
+-- ---- what a chip with an interrupt line shows besides: where answers show the line, what it means, and how large a forecast can be
+pub record Watched (C : Chip) (T : Clocked C) (L : Lined C) : Type 0 where
+  pub shows : (d : ℕ) (v : C .State) → L .asserted (C .accepted d v) ≡ L .irq v
+  pub exact : (v : C .State) → C .well v ≡ true → (L .irq v ≡ true) ↔ L .Raised v
+  pub bound : Chips.Forecast-bound C T L
+
+module _ (C : Chip) (S : Lawful C) (T : Clocked C) (K : Ticks C T) (L : Lined C) (W : Watched C T L) where
+  line-exact : Chips.Line-exact C T L
+  line-exact c v t reached =
+      by-refusal C S c v (λ r. C .number r ≡ 0 → (L .asserted r ≡ true) ↔ L .Raised (C .left r))
+      (λ w z. absurd (omega (arith, sym (S .number-refused 1 v) ∙ z)))
+      (λ w n z. absurd (n (sym (S .number-refused (C .asks c v) v) ∙ z)))
+      (λ w n z. rw (W .shows (C .gives c v) (C .leaves c v), S .left-accepted (C .gives c v) (C .leaves c v))
+      (W .exact (C .leaves c v) (S .keeps c v t n w)))
+
+  module _ (v : C .State) (f : Forecast) (r : C .Answer) (reached : Reached C v) (t : Foretold C T L v f r) where
+    told-reached : (k : ℕ) → line C T L k v ≡ comes f k
+    told-reached = t .told (reached-well C S v reached)
+
+  forecast-one : Chips.Forecast-one C T L
+  forecast-one v f g r s a b = (go (C .well v) refl, a .answered ∙ sym (b .answered))
+    where
+      go : (t : Bool) → C .well v ≡ t → f ≡ g
+      go true w = comes-one f g (λ k. sym (a .told w k) ∙ b .told w k)
+      go false w = a .refused w ∙ sym (b .refused w)
+
+  -- what is forecast after a run is what was forecast before it, so many clocks on
+  later :
+      (v : C .State) (f g : Forecast) (r s : C .Answer) (m : ℕ) → C .well v ≡ true → m ≤ T .longest
+      → Foretold C T L v f r → Foretold C T L (next C (T .run m) v) g s → (j : ℕ) → comes g j ≡ comes f (m + j)
+  later v f g r s m w h a b j =
+      let e = run-well-leaves C S T K m v h w in
+      let w′ : C .well (next C (T .run m) v) ≡ true = rw e (runs-well C S T K m v w) in
+      sym (b .told w′ j)
+      ∙ ap (λ (u : C .State). L .irq (after j (T .rule) u)) e
+      ∙ ap (L .irq) (sym (after-add m j (T .rule) v))
+      ∙ a .told w (m + j)
+
+  forecast-keeps : Chips.Forecast-keeps C T L
+  forecast-keeps v f g r s k m w l h a b e =
+      comes-one g (In (k - m))
+      (λ j. later v f g r s m w h a b j ∙ ap (λ (x : Forecast). comes x (m + j)) e ∙ moved j (decLe k (m + j)))
+    where
+      moved : (j : ℕ) → Dec (k ≤ m + j) → leb k (m + j) ≡ leb (k - m) j
+      moved j (yes p) = le-leb k (m + j) p ∙ sym (le-leb (k - m) j (omega arith))
+      moved j (no p) = lt-leb k (m + j) (omega arith) ∙ sym (lt-leb (k - m) j (omega arith))
+
+  never-stays : Chips.Never-stays C T L
+  never-stays v f g r s m w h a b e =
+      comes-one g Never (λ j. later v f g r s m w h a b j ∙ ap (λ (x : Forecast). comes x (m + j)) e)
+
+  pub lines : Lines C T L
+  lines =
+      record {
+        line-of-record = λ v reached. W .exact v (reached-well C S v reached);
+        line-exact = line-exact;
+        forecast-least = λ v f r d reached t e. told-least (λ k. line C T L k v) f (told-reached v f r reached t) d e;
+        forecast-never = λ v f r reached t. told-never (λ k. line C T L k v) f (told-reached v f r reached t);
+        forecast-one = forecast-one;
+        forecast-bound = W .bound;
+        forecast-keeps = forecast-keeps;
+        never-stays = never-stays;
+      }
