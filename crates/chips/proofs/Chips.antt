@@ -125,11 +125,9 @@ module _ (C : Chip) (S : Lawful C) where
   pub ill-leaves : (c : C .Call) (v : C .State) → C .well v ≡ false → next C c v ≡ v
   ill-leaves c v w = ap (C .left) (refuses-ill c v w) ∙ S .left-refused 1 v
 
--- ---- what a clocked chip shows besides: its clock and its runs are accepted, read nothing, and are turns of the rule
+-- ---- what a clocked chip shows besides: its runs are accepted, a single clock among them, read nothing, and are turns of the rule
 pub record Ticks (C : Chip) (T : Clocked C) : Type 0 where
-  pub clock-asks : (v : C .State) → C .asks (T .clock) v ≡ 0
-  pub clock-gives : (v : C .State) → C .gives (T .clock) v ≡ 0
-  pub clock-leaves : (v : C .State) → C .leaves (T .clock) v ≡ T .rule v
+  pub one : 1 ≤ T .longest
   pub run-asks : (n : ℕ) (v : C .State) → n ≤ T .longest → C .asks (T .run n) v ≡ 0
   pub run-gives : (n : ℕ) (v : C .State) → C .gives (T .run n) v ≡ 0
   pub run-leaves : (n : ℕ) (v : C .State) → C .leaves (T .run n) v ≡ after n (T .rule) v
@@ -139,26 +137,26 @@ module _ (C : Chip) (S : Lawful C) (T : Clocked C) (K : Ticks C T) where
   pub runs-well : (n : ℕ) (v : C .State) → C .well v ≡ true → C .well (after n (T .rule) v) ≡ true
   runs-well = after-keeps (λ (v : C .State). C .well v ≡ true) (T .rule) (K .keeps)
 
-  -- what a run and a clock show and leave of a well-formed record
+  -- what a run and a single clock show and leave of a well-formed record
   run-well-shows : (n : ℕ) (v : C .State) → n ≤ T .longest → C .well v ≡ true → answer C (T .run n) v ≡ C .accepted 0 (after n (T .rule) v)
   run-well-shows n v h w =
       accepts-well C S (T .run n) v w (K .run-asks n v h) ∙ ap₂ (C .accepted) (K .run-gives n v) (K .run-leaves n v)
 
-  clock-well-shows : (v : C .State) → C .well v ≡ true → answer C (T .clock) v ≡ C .accepted 0 (T .rule v)
-  clock-well-shows v w =
-      accepts-well C S (T .clock) v w (K .clock-asks v) ∙ ap₂ (C .accepted) (K .clock-gives v) (K .clock-leaves v)
+  clock-turns : Chips.Clock-turns C T
+  unfolding after
+  clock-turns v w = run-well-shows 1 v (K .one) w
 
   pub run-well-leaves : (n : ℕ) (v : C .State) → n ≤ T .longest → C .well v ≡ true → next C (T .run n) v ≡ after n (T .rule) v
   run-well-leaves n v h w = ap (C .left) (run-well-shows n v h w) ∙ S .left-accepted 0 (after n (T .rule) v)
 
-  clock-well-leaves : (v : C .State) → C .well v ≡ true → next C (T .clock) v ≡ T .rule v
-  clock-well-leaves v w = ap (C .left) (clock-well-shows v w) ∙ S .left-accepted 0 (T .rule v)
+  clock-well-leaves : (v : C .State) → C .well v ≡ true → next C (T .run 1) v ≡ T .rule v
+  clock-well-leaves v w = ap (C .left) (clock-turns v w) ∙ S .left-accepted 0 (T .rule v)
 
   run-single : Chips.Run-single C T
   run-single n v h =
-      run-calls (C .well) (T .rule) (next C (T .clock))
+      run-calls (C .well) (T .rule) (next C (T .run 1))
       clock-well-leaves
-      (λ u w. ill-leaves C S (T .clock) u w)
+      (λ u w. ill-leaves C S (T .run 1) u w)
       runs-well n v (next C (T .run n) v)
       (λ w. run-well-leaves n v h w)
       (λ w. ill-leaves C S (T .run n) v w)
@@ -170,15 +168,15 @@ module _ (C : Chip) (S : Lawful C) (T : Clocked C) (K : Ticks C T) where
       one-less : n ≤ T .longest
       one-less = omega arith
 
-      go : (t : Bool) → C .well v ≡ t → answer C (T .run (suc n)) v ≡ answer C (T .clock) (after n (next C (T .clock)) v)
+      go : (t : Bool) → C .well v ≡ t → answer C (T .run (suc n)) v ≡ answer C (T .run 1) (after n (next C (T .run 1)) v)
       go true w =
           run-well-shows (suc n) v h w
-          ∙ sym (clock-well-shows (after n (T .rule) v) (runs-well n v w))
-          ∙ ap (answer C (T .clock)) (sym (run-well-leaves n v one-less w) ∙ run-single n v one-less)
+          ∙ sym (clock-turns (after n (T .rule) v) (runs-well n v w))
+          ∙ ap (answer C (T .run 1)) (sym (run-well-leaves n v one-less w) ∙ run-single n v one-less)
       go false w =
           refuses-ill C S (T .run (suc n)) v w
-          ∙ sym (refuses-ill C S (T .clock) v w)
-          ∙ ap (answer C (T .clock)) (sym (ill-leaves C S (T .run n) v w) ∙ run-single n v one-less)
+          ∙ sym (refuses-ill C S (T .run 1) v w)
+          ∙ ap (answer C (T .run 1)) (sym (ill-leaves C S (T .run n) v w) ∙ run-single n v one-less)
 
   run-of-none : Chips.Run-of-none C T
   unfolding after
@@ -203,7 +201,7 @@ module _ (C : Chip) (S : Lawful C) (T : Clocked C) (K : Ticks C T) where
           ∙ sym (refuses-ill C S (T .run (a + b)) v w)
 
   pub runs : Runs C T
-  runs = record { run-single = run-single; run-shows = run-shows; run-of-none = run-of-none; runs-add = runs-add }
+  runs = record { clock-turns = clock-turns; run-single = run-single; run-shows = run-shows; run-of-none = run-of-none; runs-add = runs-add }
 
 -- ---- what a chip with an interrupt line shows besides: where answers show the line, what it means, and how large a forecast can be
 pub record Watched (C : Chip) (T : Clocked C) (L : Lined C) : Type 0 where

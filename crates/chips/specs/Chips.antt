@@ -93,22 +93,26 @@ module _ (C : Chip) where
 
 -- ---- demand 3: runs
 
--- a chip that is clocked: the rule for one clock, the call for one clock and that for n, and the longest run that is accepted
+-- a chip that is clocked: the rule for one clock, the call for a run of n clocks, of which a single clock is the run of 1, and the
+-- longest run that is accepted
 pub record Clocked (C : Chip) : Type 0 where
   pub rule : C .State → C .State
-  pub clock : C .Call
   pub run : ℕ → C .Call
   pub longest : ℕ
 
 module _ (C : Chip) (T : Clocked C) where
-  -- a run leaves what as many single clock calls leave
+  -- a single clock is one turn of the rule
+  abbrev pub Clock-turns : Type 0
+  Clock-turns = (v : C .State) → C .well v ≡ true → answer C (T .run 1) v ≡ C .accepted 0 (T .rule v)
+
+  -- a run leaves what as many single clocks leave
   abbrev pub Run-single : Type 0
-  Run-single = (n : ℕ) (v : C .State) → n ≤ T .longest → next C (T .run n) v ≡ after n (next C (T .clock)) v
+  Run-single = (n : ℕ) (v : C .State) → n ≤ T .longest → next C (T .run n) v ≡ after n (next C (T .run 1)) v
 
   -- its answer, lines and all, is that of the last of them; a run of 0 shows a well-formed record as it is
   abbrev pub Run-shows : Type 0
   Run-shows =
-      (n : ℕ) (v : C .State) → suc n ≤ T .longest → answer C (T .run (suc n)) v ≡ answer C (T .clock) (after n (next C (T .clock)) v)
+      (n : ℕ) (v : C .State) → suc n ≤ T .longest → answer C (T .run (suc n)) v ≡ answer C (T .run 1) (after n (next C (T .run 1)) v)
 
   abbrev pub Run-of-none : Type 0
   Run-of-none = (v : C .State) → answer C (T .run 0) v ≡ (if C .well v then C .accepted 0 v else C .refused 1 v)
@@ -120,6 +124,7 @@ module _ (C : Chip) (T : Clocked C) where
       → answer C (T .run b) (next C (T .run a) v) ≡ answer C (T .run (a + b)) v
 
   pub record Runs : Type 0 where
+    pub clock-turns : Clock-turns
     pub run-single : Run-single
     pub run-shows : Run-shows
     pub run-of-none : Run-of-none
