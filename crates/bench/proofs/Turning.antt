@@ -1,84 +1,56 @@
--- What a read that ends the input, or delivers a piece, comes to.
-use mathlib.Core.Path.{_≡_, refl, sym, ap, _∙_}
-use mathlib.Core.Bool.{Bool, true, false, false≢true, _&&_}
-use mathlib.Core.Logic.{inl, inr}
-use mathlib.Core.List.{List, [], _∷_, _++_}
-use Prim.Native.Nat.{ℕ, _+_, _-_, _≤_}
+-- What the number of a read says, and what a read leaves of the buffer that it reads into.
+use mathlib.Core.Path.{_≡_, refl, ap}
+use mathlib.Core.Bool.{Bool, true, false, true≢false}
+use mathlib.Core.List.{List}
+use Prim.Native.Nat.{ℕ, _+_, _-_, _*_, _≤_}
 use native.Mathlib.Omega.{arith}
-use lib.ListN.{length, take, drop, length-drop}
+use lib.IntN.{ℤ, pos, negsuc}
+use lib.ListN.{length, take, drop, length-take, length-drop}
 use lib.Seq.{take-at, length-take-le}
+use lib.Signed.{ltZ}
+use borrow.Author.Tests.{ltb-true}
 use borrow.Rule.Slice.PartMut.{putMid}
-use Rattle.clocks.proofs.Tests.{both}
-use Rattle.session.specs.Pieces.{Held, at-start, held, wrote, Finishes, Piece}
+use Rattle.io.specs.Counts.{clamped}
 use Rattle.session.specs.declared.Bench.{Bench}
-use Rattle.session.specs.declared.Fed.{Fed}
-use Rattle.session.proofs.Keeping.{drop-take}
-use Rattle.session.proofs.Piecing.{written-within}
-use Rattle.bench.specs.Turns.{holding, outcome, Shows, Turned, held-after, Reached}
-use Rattle.bench.specs.declared.Went.{Went}
+use Rattle.turns.specs.Turns.{holding, bytesOf, Fits, Takes}
+use Rattle.turns.specs.declared.Read.{Read}
+use Rattle.turns.specs.declared.Read.the-variants.{Failed, Bytes}
+use Rattle.turns.specs.declared.Went.{Went}
+use Rattle.bench.specs.Turns.{gave, Turned}
 
--- nothing came
-none-came : (buf : List ℕ) (kept more : ℕ) → more ≡ 0 → drop kept (take (kept + more) buf) ≡ []
-none-came buf kept more e =
-    let z : kept + more - kept ≡ 0 = omega arith in
-    drop-take kept (kept + more) buf ∙ ap (λ (k : ℕ). take k (drop kept buf)) z
+pub gave-none : (got : ℤ) (most : ℕ) → ltZ got (pos 0) ≡ true → Failed ≡ gave got most
+unfolding gave
+gave-none (pos k) most e = absurd (omega (arith, ltb-true k 0 e))
+gave-none (negsuc k) most e = refl
 
-pub ends :
-    (b : Bench) (buf out out′ : List ℕ) (kept more made : ℕ) → more ≡ 0 → kept ≤ 33 → 13 ≤ length out → Finishes b (take kept buf) out out′ made
-    → Shows (outcome (holding b (take kept buf)) (drop kept (take (kept + more) buf))) (record { bench = b; kept = kept; made = made; «goes_on» = false }) buf out′
-    × (false ≡ outcome (holding b (take kept buf)) (drop kept (take (kept + more) buf)) .goes)
-unfolding outcome
-ends b buf out out′ kept more made e small room f =
-    rw (none-came buf kept more e)
-    (record { holds = refl; text = f .answered room .text; small = small; made = written-within (f .answered room) }, refl)
+pub gave-some : (got : ℤ) (most n : ℕ) → ltZ got (pos 0) ≡ false → n ≡ clamped got most → Bytes n ≡ gave got most
+unfolding gave
+gave-some (pos k) most n e h = ap Bytes h
+gave-some (negsuc k) most n e h = absurd (true≢false e)
 
--- something came
-some-came : (buf : List ℕ) (kept more : ℕ) → (more ≡ 0 → ⊥) → kept + more ≤ length buf → drop kept (take (kept + more) buf) ≡ [] → ⊥
-some-came buf kept more n h e =
-    let l : length (drop kept (take (kept + more) buf)) ≡ 0 = ap length e in
-    let k : length (take (kept + more) buf) ≡ kept + more = length-take-le (kept + more) buf h in
-    n (omega (arith, l, k, length-drop kept (take (kept + more) buf)))
-
-goes-on : (h : Held) (piece : List ℕ) → (piece ≡ [] → ⊥) → outcome h piece ≡ record { holds = held h piece; text = wrote h piece; goes = true }
-unfolding outcome
-goes-on h [] n = absurd (n refl)
-goes-on h (x ∷ piece) n = refl
-
-pub feeds :
-    (b : Bench) (buf buf′ out′ : List ℕ) (kept more k : ℕ) (fed : Fed) → (more ≡ 0 → ⊥) → kept + more ≤ length buf → Piece b buf buf′ out′ kept (kept + more) k fed
-    → Shows (outcome (holding b (take kept buf)) (drop kept (take (kept + more) buf))) (record { bench = fed .bench; kept = k; made = fed .made; «goes_on» = true }) buf′ out′
-    × (true ≡ outcome (holding b (take kept buf)) (drop kept (take (kept + more) buf)) .goes)
-feeds b buf buf′ out′ kept more k fed n h p =
-    rw (goes-on (holding b (take kept buf)) _ (some-came buf kept more n h))
-    (record { holds = p .next; text = p .out; small = p .small; made = p .made }, refl)
+-- no more than there is space for
+pub gave-fits : (got : ℤ) (most : ℕ) → bytesOf (gave got most) ≤ most
+unfolding gave
+gave-fits (pos k) most = omega arith
+gave-fits (negsuc k) most = omega arith
 
 -- a read into the buffer from a on leaves its first a bytes
 pub front : (a k : ℕ) (xs ys : List ℕ) → a ≤ length xs → take a (putMid a k xs ys) ≡ take a xs
 front a k xs ys h = take-at (take a xs) _ a (length-take-le a xs h)
 
--- what was taken of a piece, with the word whether all of it was written
-pub turns :
-    (b : Bench) {kept₀ kept buf out : List ℕ} (piece : List ℕ) (t : Went) (ok : Bool) → kept ≡ kept₀
-    → Shows (outcome (holding b kept) piece) t buf out × (t .«goes_on» ≡ outcome (holding b kept) piece .goes)
-    → Turned (holding b kept₀) (record { bench = t .bench; kept = t .kept; made = t .made; «goes_on» = t .«goes_on» && ok }) buf out
-turns b {kept₀} {kept} {buf} {out} piece t ok e p =
-    rw (← e)
-    (inr (piece, record { holds = p .0 .holds; text = p .0 .text; small = p .0 .small; made = p .0 .made }, λ g. sym (p .1) ∙ both (t .«goes_on») ok g .0))
+-- the space for a read is what lies behind the kept bytes
+pub space : (kept : ℕ) (buf : List ℕ) → kept ≤ length buf → kept + length (take (length buf - kept) (drop kept buf)) ≤ length buf
+space kept buf h = simp (length-take, length-drop) (omega arith)
 
--- a turn that goes on leaves what one more piece leaves
-held-more : (h : Held) (pieces : List (List ℕ)) (piece : List ℕ) → held-after h (pieces ++ piece ∷ []) ≡ held (held-after h pieces) piece
-held-more h [] piece = refl
-held-more h (p ∷ pieces) piece = held-more (held h p) pieces piece
+-- what the read gave fits both buffers
+pub fits :
+    (got : ℤ) (read : Read) (kept most : ℕ) (buf out : List ℕ) → read ≡ gave got most → kept + most ≤ length buf
+    → 3 * length buf + 13 ≤ length out → Fits kept read buf out
+fits got read kept most buf out e h l = let g = gave-fits got most in (rw e (omega arith), l)
 
-goes-holds : (h : Held) (piece : List ℕ) → outcome h piece .goes ≡ true → outcome h piece .holds ≡ held h piece
-unfolding outcome
-goes-holds h [] e = absurd (false≢true e)
-goes-holds h (x ∷ piece) e = refl
-
-pub reached-on :
-    {h : Held} {t : Went} {buf out : List ℕ} → Turned h t buf out → t .«goes_on» ≡ true → Reached h
-    → (t .kept ≤ 33) × Reached (holding (t .bench) (take (t .kept) buf))
-reached-on {h} {t} {buf} {out} (inl w) e r = absurd (false≢true (sym (w .1) ∙ e))
-reached-on {h} {t} {buf} {out} (inr w) e r =
-    let n : holding (t .bench) (take (t .kept) buf) ≡ held h (w .0) = w .1 .holds ∙ goes-holds h (w .0) (w .2 e) in
-    (w .1 .small, (r .0 ++ w .0 ∷ [], n ∙ ap (λ (h : Held). held h (w .0)) (r .1) ∙ sym (held-more at-start (r .0) (w .0))))
+pub turned :
+    (b : Bench) (kept₀ : List ℕ) (kept : ℕ) (read : Read) (buf out buf′ out′ : List ℕ) (went : Went) (written : Bool)
+    → take kept buf ≡ kept₀ → Fits kept read buf out → Takes b kept read buf out went buf′ out′
+    → Turned (holding b kept₀) kept out (record { read = read; went = went; written = written }) buf′ out′
+turned b kept₀ kept read buf out buf′ out′ went written e f t =
+    record { buf = buf; front = e; room = f .0; shows = rw (← e) (t .fits f) }

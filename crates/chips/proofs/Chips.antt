@@ -30,6 +30,21 @@ module _ (C : Chip) (c : C .Call) (v : C .State) (k : ℕ) (e : k ≡ first C c 
       on-false (eqb (first C c v) 0) _ _ (ne-eqb (first C c v) 0 (λ q. z (e ∙ q)))
       ∙ ap (λ (j : ℕ). C .refused j v) (sym e)
 
+  -- the record of an accepted call is well formed; a call with no fault in its operands is refused for the record
+  pub accepts-only-well : k ≡ 0 → C .well v ≡ true
+  accepts-only-well z = go (C .well v) e
+    where
+      go : (b : Bool) → k ≡ (if b then C .asks c v else 1) → b ≡ true
+      go true q = refl
+      go false q = absurd (omega (arith, z, q))
+
+  pub refuses-only-ill : C .asks c v ≡ 0 → (k ≡ 0 → ⊥) → C .well v ≡ false
+  refuses-only-ill n z = go (C .well v) e
+    where
+      go : (b : Bool) → k ≡ (if b then C .asks c v else 1) → b ≡ false
+      go true q = absurd (z (q ∙ n))
+      go false q = refl
+
 -- ---- what a chip shows of itself: where its answers have what they show, that no operand is refused with 1, and that calls keep it well formed
 pub record Lawful (C : Chip) : Type 0 where
   pub number-accepted : (d : ℕ) (v : C .State) → C .number (C .accepted d v) ≡ 0

@@ -10,7 +10,7 @@ use lib.Pow.{pow-mono}
 use lib.Bits.{bitAnd, bitOr, and-step, and-le-l, and-shr, or-shr, and-mod, or-mod}
 use borrow.Author.Tests.{eq-eqb, ne-eqb, eqb-true}
 use mathlib.Core.Logic.{_⊎_, inl, inr}
-use Rattle.clocks.proofs.Tests.{both, either}
+use Rattle.clocks.proofs.Tests.{both, either, neither}
 use Rattle.clocks.specs.Clocks.{if_then_else_}
 use Rattle.clocks.specs.Bits.{bit, withSet, withClear, withBit, merge, shares}
 
@@ -203,10 +203,6 @@ unfolding shares
 shares-same zero x x′ y h = refl
 shares-same (suc n) x x′ y h =
     ap₂ (λ (p q : Bool). p && bit n y || q) (h n (omega arith)) (shares-same n x x′ y (λ k l. h k (omega arith)))
-
-neither : (a b : Bool) → (a || b) ≡ false → (a ≡ false) × (b ≡ false)
-neither true b e = absurd (true≢false e)
-neither false b e = (refl, e)
 
 shares-some : (n x y : ℕ) → shares n x y ≡ false → (k : ℕ) → k < n → (bit k x && bit k y) ≡ false
 unfolding shares

@@ -12,6 +12,10 @@ pub either : (a b : Bool) → (a || b) ≡ true → (a ≡ true) ⊎ (b ≡ true
 either true b e = inl refl
 either false b e = inr e
 
+pub neither : (a b : Bool) → (a || b) ≡ false → (a ≡ false) × (b ≡ false)
+neither true b e = absurd (true≢false e)
+neither false b e = (refl, e)
+
 pub on-true : {A : Type 0} (t : Bool) (x y : A) → t ≡ true → (if t then x else y) ≡ x
 on-true true x y e = refl
 on-true false x y e = absurd (false≢true e)

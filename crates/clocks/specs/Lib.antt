@@ -1,3 +1,4 @@
 pub mod Clocks
 pub mod Forecasts
 pub mod Bits
+pub mod Ranges

@@ -1,39 +1,17 @@
-// The 6545: the screen's counters, its lines, and the light pen. A call takes the record and hands it back inside its answer.
+// The 6545: the raster of the screen, its lines as R8 shows them, and the light pen. A call takes the record and hands it back inside its answer.
 ghost use mathlib.Core.Path.{_≡_};
-ghost use Rattle.clocks.specs.Clocks.{after};
-ghost use Rattle.crtc6545.specs.Record.{powerUp, resetOf};
-ghost use Rattle.crtc6545.specs.Access.{writeRefusal, writeOf, pinsRefusal, pinsOf};
-ghost use Rattle.crtc6545.specs.Clock.{runRefusal, clockOf};
-ghost use Rattle.crtc6545.specs.Answers.{accepted as acceptedOf, refused as refusedOf, judged, readingOf};
+ghost use Rattle.clocks.specs.Clocks.{if_then_else_};
+ghost use Rattle.chips.specs.Chips.{answer};
+ghost use Rattle.crtc6545.specs.Record.{wellFormed, powerUp};
+ghost use Rattle.crtc6545.specs.Chip.{chip, accepted as acceptedOf, refused as refusedOf, readingOf};
+use calls::Call45;
 use clocks::bit;
 use clocks::choose8;
+use raster::Raster;
 
 mod access;
 mod clock;
-mod record;
 mod signals;
-
-// The registers that a write reaches. R16 and R17 are the light pen's, so a run changes none of these.
-pub struct Registers {
-    pub r0: u8,
-    pub r1: u8,
-    pub r2: u8,
-    pub r3: u8,
-    pub r4: u8,
-    pub r5: u8,
-    pub r6: u8,
-    pub r7: u8,
-    pub r8: u8,
-    pub r9: u8,
-    pub r10: u8,
-    pub r11: u8,
-    pub r12: u8,
-    pub r13: u8,
-    pub r14: u8,
-    pub r15: u8,
-    pub r18: u8,
-    pub r19: u8,
-}
 
 // The light pen: where it was seen, whether that is new, its level, and a strobe that waits for a clock.
 pub struct Light {
@@ -50,31 +28,11 @@ pub struct Kept {
     pub cursor: bool,
 }
 
-// What every clock moves: the column, and the clocks that HSYNC has left.
-pub struct Line {
-    pub column: u8,
-    pub hsync: u8,
-}
-
-// What only a line end moves; `vsync` is the lines that VSYNC has left.
-pub struct Frame {
-    pub row: u8,
-    pub scan: u8,
-    pub adjusting: bool,
-    pub adjust: u8,
-    pub row_start: u16,
-    pub frame_start: u16,
-    pub vsync: u8,
-    pub field: u8,
-}
-
 pub struct Crtc {
-    pub registers: Registers,
+    pub raster: Raster,
     pub address: u8,
     pub light: Light,
     pub kept: Kept,
-    pub line: Line,
-    pub frame: Frame,
 }
 
 // The answer to a call: its refusal's number or 0, the byte that it read, the lines and the record as it left them.
@@ -104,7 +62,7 @@ impl Crtc {
         ensures { λ r. ⌜ r ≡ powerUp ⌝ }
     {
         Crtc {
-            registers: Registers::cleared(),
+            raster: Raster::power_up(),
             address: 0,
             light: Light {
                 r16: 0,
@@ -117,33 +75,25 @@ impl Crtc {
                 de: false,
                 cursor: false,
             },
-            line: Line {
-                column: 0,
-                hsync: 0,
-            },
-            frame: Frame::first(0),
         }
     }
 
     fn accepted(self, data: u8) -> Answer
         ensures { λ r. ⌜ r ≡ acceptedOf «data» self ⌝ }
     {
-        let registers = self.registers;
+        let raster = self.raster;
         let kept = self.kept;
-        let line = self.line;
-        let frame = self.frame;
-        let de = registers.de(line, frame);
-        let shown = signals::skewed(bit(4, registers.r8), kept.de, de);
-        let cursor = de & registers.marked(line, frame);
+        let r8 = raster.registers.r8;
+        let signals = raster.signals();
         Answer {
             refusal: 0,
             data,
-            de: shown,
-            hsync: 0 < line.hsync,
-            vsync: 0 < frame.vsync,
-            cursor: signals::skewed(bit(5, registers.r8), kept.cursor, cursor),
-            ma: registers.ma(line, frame),
-            ra: frame.ra(),
+            de: signals::skewed(bit(4, r8), kept.de, signals.de),
+            hsync: 0 < raster.line.hsync,
+            vsync: 0 < raster.frame.vsync,
+            cursor: signals::skewed(bit(5, r8), kept.cursor, signals.cursor),
+            ma: signals.ma,
+            ra: signals.ra,
             crtc: self,
         }
     }
@@ -164,82 +114,100 @@ impl Crtc {
         }
     }
 
-    pub fn reset(self) -> Answer
-        ensures { λ r. ⌜ r ≡ judged 0 self 0 (resetOf self) ⌝ }
+    // The number of the first refusal that applies, `asked` being that of the operands.
+    fn refusal(self, asked: u8) -> u8
+        ensures { λ r. ⌜ r ≡ (if wellFormed self then asked else 1) ⌝ }
     {
-        let number = self.refusal(0);
-        if number == 0 {
-            let next = self.restarted();
-            next.accepted(0)
-        } else {
-            self.refused(number)
-        }
+        let raster = self.raster;
+        choose8(
+            raster.well() & (self.light.r16 < 64) & (self.address < 32),
+            asked,
+            1,
+        )
     }
 
-    pub fn read(self, address: u8) -> Reading
+    pub fn reset(mut self) -> Answer
+        ensures { λ r. ⌜ r ≡ answer chip Call45.Reset self ⌝ }
+    {
+        let number = self.refusal(0);
+        if number != 0 {
+            return self.refused(number);
+        }
+        let raster = self.raster;
+        let kept = Kept {
+            de: false,
+            cursor: false,
+        };
+        self.raster = raster.restarted();
+        self.light.waiting = false;
+        self.kept = kept;
+        self.accepted(0)
+    }
+
+    pub fn read(mut self, address: u8) -> Reading
         ensures { λ r. ⌜ r ≡ readingOf address self ⌝ }
     {
         let number = self.refusal(choose8(1 < address, 3, 0));
-        if number == 0 {
-            let data = self.data(address);
-            let next = self.after_read(address);
-            Reading {
-                undriven: (address == 1) & (self.address == 31),
-                answer: next.accepted(data),
-            }
-        } else {
-            Reading {
+        if number != 0 {
+            return Reading {
                 undriven: false,
                 answer: self.refused(number),
-            }
+            };
+        }
+        let k = self.address;
+        let data = self.data(address);
+        let full = self.light.full & !((address == 1) & ((k == 16) | (k == 17)));
+        self.light.full = full;
+        Reading {
+            undriven: (address == 1) & (k == 31),
+            answer: self.accepted(data),
         }
     }
 
-    pub fn write(self, address: u8, value: u8) -> Answer
-        ensures { λ r. ⌜ r ≡ judged (writeRefusal address value self) self 0 (writeOf address value self) ⌝ }
+    pub fn write(mut self, address: u8, value: u8) -> Answer
+        ensures { λ r. ⌜ r ≡ answer chip (Call45.Write address value) self ⌝ }
     {
-        let number = self.refusal(self.write_refusal(address, value));
-        if number == 0 {
-            let next = self.written(address, value);
-            next.accepted(0)
-        } else {
-            self.refused(number)
+        let number = self.refusal(self.write_asks(address, value));
+        if number != 0 {
+            return self.refused(number);
         }
+        if address == 0 {
+            self.address = value % 32;
+            return self.accepted(0);
+        }
+        let raster = self.raster;
+        self.raster = raster.stored(self.address, value);
+        self.accepted(0)
     }
 
-    pub fn pins(self, pen: u8) -> Answer
-        ensures { λ r. ⌜ r ≡ judged (pinsRefusal pen) self 0 (pinsOf pen self) ⌝ }
+    pub fn pins(mut self, pen: u8) -> Answer
+        ensures { λ r. ⌜ r ≡ answer chip (Call45.Pins pen) self ⌝ }
     {
         let number = self.refusal(choose8(1 < pen, 5, 0));
-        if number == 0 {
-            let next = self.pinned(pen == 1);
-            next.accepted(0)
-        } else {
-            self.refused(number)
+        if number != 0 {
+            return self.refused(number);
         }
+        let level = pen == 1;
+        let waiting = self.light.waiting | (!self.light.pen & level);
+        self.light.pen = level;
+        self.light.waiting = waiting;
+        self.accepted(0)
     }
 
     pub fn clock(self) -> Answer
-        ensures { λ r. ⌜ r ≡ judged 0 self 0 (clockOf self) ⌝ }
+        ensures { λ r. ⌜ r ≡ answer chip (Call45.Run 1) self ⌝ }
     {
-        let number = self.refusal(0);
-        if number == 0 {
-            let next = self.clocked();
-            next.accepted(0)
-        } else {
-            self.refused(number)
-        }
+        self.run(1)
     }
 
     pub fn run(self, n: u32) -> Answer
-        ensures { λ r. ⌜ r ≡ judged (runRefusal n) self 0 (after n clockOf self) ⌝ }
+        ensures { λ r. ⌜ r ≡ answer chip (Call45.Run n) self ⌝ }
     {
         let number = self.refusal(choose8(Crtc::LONGEST_RUN < n, 6, 0));
-        if number == 0 {
-            let next = self.ran(n);
-            next.accepted(0)
-        } else {
-            self.refused(number)
+        if number != 0 {
+            return self.refused(number);
         }
+        let next = self.ran(n);
+        next.accepted(0)
     }
 }

@@ -1,22 +1,159 @@
 -- The statements of specs/Demands.antt, proved.
-use mathlib.Core.Path.{_≡_, sym, ap, _∙_}
-use Prim.Native.Nat.{ℕ, _+_, _≤_}
-use native.Mathlib.Decide.{decLe}
+use mathlib.Core.Path.{_≡_, refl, ap, ap₂, _∙_}
+use mathlib.Core.Bool.{Bool, true, false}
+use mathlib.Core.List.{List, [], _∷_}
+use Prim.Native.Nat.{ℕ, zero, suc, _+_, _*_, _/_, _%_, _<_, _≤_}
 use native.Mathlib.Omega.{arith}
-use lib.ListN.{length, drop}
-use Rattle.frames.specs.Demands
-use Rattle.frames.proofs.Texts.{same-halves}
+use lib.Dec.{eqb, ltb, leb}
+use lib.ListN.{length}
+use borrow.Author.Tests.{ltb-true, le-leb, leb-true}
+use Rattle.clocks.specs.Clocks.{if_then_else_}
+use Rattle.clocks.proofs.Tests.{picked, both}
+use Rattle.calls.specs.declared.Call22.the-variants as Via
+use Rattle.calls.specs.declared.Call32.the-variants as Riot
+use Rattle.calls.specs.declared.Call45.the-variants as Crtc
+use Rattle.replies.specs.Hex.{digitOf, hexOf}
+use Rattle.frames.specs.Hex.{valueOf, pairOf}
+use Rattle.frames.specs.Frames.{bytesOf, areBytes, byte, clocks, with, of22, of32, of45, ofBytes, checked, frameOf}
+use Rattle.frames.specs.Demands.{Typed, count, lineOf}
+use Rattle.frames.specs.Demands as Demands
+use Rattle.frames.specs.declared.Frame.{Frame}
+use Rattle.frames.specs.declared.Frame.the-variants.{Unknown, To22, To32, To45}
+use Rattle.frames.proofs.Lines.{by-less, value-by, Bytes, no-more, a-byte, are-bytes}
 
-pub put-one : Demands.Put-one
-put-one before x y at r q t p s = go (decLe (at + 13) (length before))
+-- ---- the operands of a line's call
+
+-- each of some bytes is below 256, and so is the 0 past their end
+small : (s : List ℕ) → areBytes s ≡ true → (k : ℕ) → byte k s < 256
+small [] e k = omega arith
+small (b ∷ s) e zero = ltb-true b 256 (both (ltb b 256) (areBytes s) e .0)
+small (b ∷ s) e (suc k) = small s (both (ltb b 256) (areBytes s) e .1) k
+
+clocks-small : (s : List ℕ) → ((k : ℕ) → byte k s < 256) → clocks s < 4294967296
+clocks-small s b = omega (arith, b 0, b 1, b 2, b 3)
+
+-- what holds of a row's frame, of no frame, and of the rows below it holds of the table
+row : (P : Frame → Type 0) (op k n : ℕ) (s : List ℕ) {f y : Frame} → P Unknown → P f → P y → P (if eqb op k then with n s f else y)
+row P op k n s u p q = picked P (eqb op k) (picked P (eqb (length s) n) p u) q
+
+module _ (op : ℕ) (s : List ℕ) (b : (k : ℕ) → byte k s < 256) where
+  typed22 : Typed (of22 op s)
+  typed22 =
+      row Typed op 1 0 s tt tt
+      (row Typed op 2 2 s tt (b 0, b 1)
+      (row Typed op 3 1 s tt (b 0)
+      (row Typed op 4 3 s tt (b 0, b 1, b 2)
+      (row Typed op 5 4 s tt (clocks-small s b)
+      (row Typed op 6 0 s tt tt tt)))))
+
+  typed32 : Typed (of32 op s)
+  typed32 =
+      row Typed op 1 0 s tt tt
+      (row Typed op 2 2 s tt (b 0, b 1)
+      (row Typed op 3 1 s tt (b 0)
+      (row Typed op 4 2 s tt (b 0, b 1)
+      (row Typed op 5 4 s tt (clocks-small s b)
+      (row Typed op 6 0 s tt tt tt)))))
+
+  typed45 : Typed (of45 op s)
+  typed45 =
+      row Typed op 1 0 s tt tt
+      (row Typed op 2 2 s tt (b 0, b 1)
+      (row Typed op 3 1 s tt (b 0)
+      (row Typed op 4 1 s tt (b 0)
+      (row Typed op 5 4 s tt (clocks-small s b) tt))))
+
+typed-bytes : (s : List ℕ) → areBytes s ≡ true → Typed (ofBytes s)
+typed-bytes [] e = tt
+typed-bytes (chip ∷ []) e = tt
+typed-bytes (chip ∷ op ∷ s) e =
+    let b : (k : ℕ) → byte k s < 256 = λ k. small (chip ∷ op ∷ s) e (suc (suc k)) in
+    picked Typed (eqb chip 0x22) (typed22 op s b) (picked Typed (eqb chip 0x32) (typed32 op s b) (picked Typed (eqb chip 0x45) (typed45 op s b) tt))
+
+typed-checked : (s : List ℕ) → Typed (checked s)
+unfolding checked
+typed-checked s = go (areBytes s) refl
   where
-    go : Dec (at + 13 ≤ length before) → (x ≡ y) × (r ≡ q)
-    go (yes h) =
-        let a = p .fits h in
-        let b = s .fits h in
-        let e : r ≡ q = a .place ∙ sym (b .place) in
-        (same-halves r q x y e (a .text ∙ sym (b .text)) (a .rest ∙ ap (λ (n : ℕ). drop n before) e ∙ sym (b .rest)), e)
-    go (no h) =
-        let a = p .full (omega arith) in
-        let b = s .full (omega arith) in
-        (a .0 ∙ sym (b .0), a .1 ∙ sym (b .1))
+    go : (t : Bool) → areBytes s ≡ t → Typed (if t then ofBytes s else Unknown)
+    go true e = typed-bytes s e
+    go false e = tt
+
+pub frames-typed : Demands.Frames-typed
+unfolding frameOf
+frames-typed l = picked Typed (leb (length l) 32) (typed-checked (bytesOf l)) tt
+
+-- ---- the line of a call's bytes
+
+value-digit : (n : ℕ) → n < 16 → valueOf (digitOf n) ≡ n
+value-digit n h =
+    by-less (λ (c : ℕ). valueOf c ≡ n) n 10
+    (λ p. value-by (λ (x : ℕ). x ≡ n) (n + 48) (λ q. omega arith) (λ q r. omega arith) (λ q r. omega arith) (λ q r. omega arith) (λ q. omega arith))
+    (λ p. value-by (λ (x : ℕ). x ≡ n) (n + 55) (λ q. omega arith) (λ q r. omega arith) (λ q r. omega arith) (λ q r. omega arith) (λ q. omega arith))
+
+pair-hex : (b : ℕ) → b < 256 → pairOf (digitOf (b / 16)) (digitOf (b % 16)) ≡ b
+unfolding pairOf
+pair-hex b h =
+    ap₂ (λ (x y : ℕ). x * 16 + y) (value-digit (b / 16) (omega arith)) (value-digit (b % 16) (omega arith)) ∙ omega arith
+
+bytes-back : (s : List ℕ) → areBytes s ≡ true → bytesOf (lineOf s) ≡ s
+unfolding hexOf
+bytes-back [] e = refl
+bytes-back (b ∷ s) e =
+    ap₂ (λ (x : ℕ) (y : List ℕ). x ∷ y) (pair-hex b (small (b ∷ s) e zero)) (bytes-back s (both (ltb b 256) (areBytes s) e .1))
+
+line-length : (s : List ℕ) → length (lineOf s) ≡ 2 * length s
+unfolding hexOf
+line-length [] = refl
+line-length (b ∷ s) = let i = line-length s in omega arith
+
+said : (s : List ℕ) → areBytes s ≡ true → leb (length s) 16 ≡ true → frameOf (lineOf s) ≡ ofBytes s
+unfolding frameOf checked
+said s e h =
+    let u : length (lineOf s) ≤ 32 = omega (arith, line-length s, leb-true (length s) 16 h) in
+    rw (le-leb (length (lineOf s)) 32 u, bytes-back s e, e)
+
+count-bytes : (n : ℕ) → Bytes (count n)
+count-bytes n =
+    let a : n / 16777216 % 256 ≤ 255 = omega arith in
+    let b : n / 65536 % 256 ≤ 255 = omega arith in
+    let c : n / 256 % 256 ≤ 255 = omega arith in
+    let d : n % 256 ≤ 255 = omega arith in
+    a-byte a (a-byte b (a-byte c (a-byte d no-more)))
+
+count-back : (n : ℕ) → n < 4294967296 → clocks (count n) ≡ n
+count-back n h =
+    let a : n / 16777216 % 256 * 256 + n / 65536 % 256 ≡ n / 65536 = omega arith in
+    let b : n / 65536 * 256 + n / 256 % 256 ≡ n / 256 = omega arith in
+    let c : n / 256 * 256 + n % 256 ≡ n = omega arith in
+    rw (a, b, c)
+
+below : {b : ℕ} {s : List ℕ} → b < 256 → Bytes s → Bytes (b ∷ s)
+below {b} h r = let k : b ≤ 255 = omega arith in a-byte k r
+
+-- a chip's byte, an operation's, and operands
+asked :
+    (chip op : ℕ) {s : List ℕ} → Bytes s → areBytes (chip ∷ op ∷ []) ≡ true → leb (length (chip ∷ op ∷ s)) 16 ≡ true
+    → frameOf (lineOf (chip ∷ op ∷ s)) ≡ ofBytes (chip ∷ op ∷ s)
+asked chip op {s} r e h =
+    let a = both (ltb chip 256) (areBytes (op ∷ [])) e in
+    said (chip ∷ op ∷ s) (rw (a .0, both (ltb op 256) true (a .1) .0, are-bytes r)) h
+
+pub frames-said : Demands.Frames-said
+frames-said Unknown t = said [] refl refl
+frames-said (To22 Via.Reset) t = asked 0x22 0x01 no-more refl refl
+frames-said (To22 (Via.Write r x)) t = asked 0x22 0x02 (below (t .0) (below (t .1) no-more)) refl refl
+frames-said (To22 (Via.Read r)) t = asked 0x22 0x03 (below t no-more) refl refl
+frames-said (To22 (Via.Pins pa pb control)) t = asked 0x22 0x04 (below (t .0) (below (t .1) (below (t .2) no-more))) refl refl
+frames-said (To22 (Via.Run n)) t = asked 0x22 0x05 (count-bytes n) refl refl ∙ ap (λ (k : ℕ). To22 (Via.Run k)) (count-back n t)
+frames-said (To22 Via.Forecast) t = asked 0x22 0x06 no-more refl refl
+frames-said (To32 Riot.Reset) t = asked 0x32 0x01 no-more refl refl
+frames-said (To32 (Riot.Write a x)) t = asked 0x32 0x02 (below (t .0) (below (t .1) no-more)) refl refl
+frames-said (To32 (Riot.Read a)) t = asked 0x32 0x03 (below t no-more) refl refl
+frames-said (To32 (Riot.Pins pa pb)) t = asked 0x32 0x04 (below (t .0) (below (t .1) no-more)) refl refl
+frames-said (To32 (Riot.Run n)) t = asked 0x32 0x05 (count-bytes n) refl refl ∙ ap (λ (k : ℕ). To32 (Riot.Run k)) (count-back n t)
+frames-said (To32 Riot.Forecast) t = asked 0x32 0x06 no-more refl refl
+frames-said (To45 Crtc.Reset) t = asked 0x45 0x01 no-more refl refl
+frames-said (To45 (Crtc.Write a x)) t = asked 0x45 0x02 (below (t .0) (below (t .1) no-more)) refl refl
+frames-said (To45 (Crtc.Read a)) t = asked 0x45 0x03 (below t no-more) refl refl
+frames-said (To45 (Crtc.Pins pen)) t = asked 0x45 0x04 (below t no-more) refl refl
+frames-said (To45 (Crtc.Run n)) t = asked 0x45 0x05 (count-bytes n) refl refl ∙ ap (λ (k : ℕ). To45 (Crtc.Run k)) (count-back n t)

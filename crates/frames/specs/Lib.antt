@@ -1,4 +1,3 @@
 pub mod Hex
 pub mod Frames
-pub mod Replies
 pub mod Demands

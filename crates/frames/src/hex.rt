@@ -1,53 +1,36 @@
-// Upper-case hexadecimal: characters read two at a time, and the digits that are written.
+// Upper-case hexadecimal, read. A character that is no digit is worth so much that what it is part of is too large.
 ghost use mathlib.Core.Path.{_≡_};
-ghost use Prim.Native.Nat.{_+_, _<_};
-ghost use lib.ListN.{length, getD};
-ghost use Rattle.frames.specs.Hex.{valueOf, pairOf, digitOf};
+ghost use Prim.Native.Nat.{_+_, _*_, _<_, _≤_};
+ghost use lib.ListN.{length};
+ghost use Rattle.frames.specs.Hex.{valueOf, pairAt};
+use std::num::wrapping_sub_u8;
 
-fn value(c: u8) -> u8
-    ensures { λ r. ⌜ r ≡ valueOf c ⌝ }
+fn value(c: u8) -> u32
+    ensures { λ r. ⌜ (r ≡ valueOf c) × (r ≤ 65536) ⌝ }
 {
-    if c < 48 {
-        return 16;
+    let digit = wrapping_sub_u8(c, 48);
+    if digit < 10 {
+        return digit as u32;
     }
-    if c < 58 {
-        return c - 48;
+    let letter = wrapping_sub_u8(c, 65);
+    if letter < 6 {
+        return letter as u32 + 10;
     }
-    if c < 65 {
-        return 16;
-    }
-    if c < 71 {
-        return c - 55;
-    }
-    16
+    65536
 }
 
-// A byte, or 256 where one of the characters is no digit.
-fn pair(h: u8, l: u8) -> u16
-    ensures { λ r. ⌜ r ≡ pairOf h l ⌝ }
-{
-    let high = value(h);
-    let low = value(l);
-    if high > 15 {
-        return 256;
-    }
-    if low > 15 {
-        return 256;
-    }
-    (high * 16 + low) as u16
-}
-
-// The byte whose first digit stands at k.
-pub(crate) fn byte_at(line: &[u8], k: usize) -> u16
+// The byte whose first digit is at k; above 255 where it is none.
+pub(crate) fn byte_at(line: &[u8], k: usize) -> u32
     requires { ⌜ k + 1 < length (now line) ⌝ }
-    ensures { λ r. ⌜ r ≡ pairOf (getD (now (line .entry)) k 0) (getD (now (line .entry)) (k + 1) 0) ⌝ }
+    ensures { λ r. ⌜ (r ≡ pairAt (now (line .entry)) k) × (r ≤ 1114112) ⌝ }
 {
-    pair(line[k], line[k + 1])
+    value(line[k]) * 16 + value(line[k + 1])
 }
 
-pub(crate) fn digit(n: u8) -> u8
-    requires { ⌜ n < 16 ⌝ }
-    ensures { λ r. ⌜ r ≡ digitOf n ⌝ }
+// Two bytes as one number, the first from k on; above 65535 where one is none.
+pub(crate) fn word_at(line: &[u8], k: usize) -> u32
+    requires { ⌜ k + 3 < length (now line) ⌝ }
+    ensures { λ r. ⌜ r ≡ pairAt (now (line .entry)) k * 256 + pairAt (now (line .entry)) (k + 2) ⌝ }
 {
-    if n < 10 { n + 48 } else { n + 55 }
+    byte_at(line, k) * 256 + byte_at(line, k + 2)
 }

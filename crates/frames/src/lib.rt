@@ -1,47 +1,14 @@
-// The text of a session: a line of hexadecimal is a frame or none, and a reply is a line of hexadecimal.
+// Which call a line of a session is: the byte of a chip, an operation's number and its operands, two digits a byte.
 ghost use mathlib.Core.Path.{_≡_};
+ghost use lib.ListN.{length};
 ghost use Rattle.frames.specs.Frames.{frameOf};
-ghost use Rattle.frames.specs.Replies.{render, Put};
-use calls::four;
-use calls::none;
-use calls::one;
-use calls::three;
-use calls::two;
+use calls::Call22;
+use calls::Call32;
+use calls::Call45;
 use hex::byte_at;
-use puts::put_reply;
+use hex::word_at;
 
-mod calls;
 mod hex;
-mod puts;
-
-// A call of the 6522, with its operands.
-pub enum Call22 {
-    Reset,
-    Write(u8, u8),
-    Read(u8),
-    Pins(u8, u8, u8),
-    Run(u32),
-    Forecast,
-}
-
-// A call of the 6532.
-pub enum Call32 {
-    Reset,
-    Write(u8, u8),
-    Read(u8),
-    Pins(u8, u8),
-    Run(u32),
-    Forecast,
-}
-
-// A call of the 6545.
-pub enum Call45 {
-    Reset,
-    Write(u8, u8),
-    Read(u8),
-    Pins(u8),
-    Run(u32),
-}
 
 // What a line says: nothing that the bench knows, or a call of one chip.
 pub enum Frame {
@@ -51,12 +18,98 @@ pub enum Frame {
     To45(Call45),
 }
 
-// What a frame gets: a refusal's number; or the line byte, alone, before a byte that was read, or before a forecast's number.
-pub enum Reply {
-    Refused(u8),
-    Done(u8),
-    Data(u8, u8),
-    Ahead(u8, u32),
+// Lines by the number of their operands. Chip and operation are told apart as one word, the line's first four digits.
+fn none(line: &[u8]) -> Frame
+    requires { ⌜ length (now line) ≡ 4 ⌝ }
+    ensures { λ r. ⌜ r ≡ frameOf (now (line .entry)) ⌝ }
+{
+    match word_at(line, 0) {
+        0x2201 => Frame::To22(Call22::Reset),
+        0x3201 => Frame::To32(Call32::Reset),
+        0x4501 => Frame::To45(Call45::Reset),
+        0x2206 => Frame::To22(Call22::Forecast),
+        0x3206 => Frame::To32(Call32::Forecast),
+        _ => Frame::Unknown,
+    }
+}
+
+fn one(line: &[u8]) -> Frame
+    requires { ⌜ length (now line) ≡ 6 ⌝ }
+    ensures { λ r. ⌜ r ≡ frameOf (now (line .entry)) ⌝ }
+{
+    let byte = byte_at(line, 4);
+    if byte > 255 {
+        return Frame::Unknown;
+    }
+    let a = byte as u8;
+    match word_at(line, 0) {
+        0x2203 => Frame::To22(Call22::Read(a)),
+        0x3203 => Frame::To32(Call32::Read(a)),
+        0x4503 => Frame::To45(Call45::Read(a)),
+        0x4504 => Frame::To45(Call45::Pins(a)),
+        _ => Frame::Unknown,
+    }
+}
+
+fn two(line: &[u8]) -> Frame
+    requires { ⌜ length (now line) ≡ 8 ⌝ }
+    ensures { λ r. ⌜ r ≡ frameOf (now (line .entry)) ⌝ }
+{
+    let word = word_at(line, 4);
+    if word > 65535 {
+        return Frame::Unknown;
+    }
+    let a = (word / 256) as u8;
+    let b = (word % 256) as u8;
+    match word_at(line, 0) {
+        0x2202 => Frame::To22(Call22::Write(a, b)),
+        0x3202 => Frame::To32(Call32::Write(a, b)),
+        0x4502 => Frame::To45(Call45::Write(a, b)),
+        0x3204 => Frame::To32(Call32::Pins(a, b)),
+        _ => Frame::Unknown,
+    }
+}
+
+fn three(line: &[u8]) -> Frame
+    requires { ⌜ length (now line) ≡ 10 ⌝ }
+    ensures { λ r. ⌜ r ≡ frameOf (now (line .entry)) ⌝ }
+{
+    let word = word_at(line, 4);
+    if word > 65535 {
+        return Frame::Unknown;
+    }
+    let byte = byte_at(line, 8);
+    if byte > 255 {
+        return Frame::Unknown;
+    }
+    let a = (word / 256) as u8;
+    let b = (word % 256) as u8;
+    let c = byte as u8;
+    match word_at(line, 0) {
+        0x2204 => Frame::To22(Call22::Pins(a, b, c)),
+        _ => Frame::Unknown,
+    }
+}
+
+fn four(line: &[u8]) -> Frame
+    requires { ⌜ length (now line) ≡ 12 ⌝ }
+    ensures { λ r. ⌜ r ≡ frameOf (now (line .entry)) ⌝ }
+{
+    let high = word_at(line, 4);
+    if high > 65535 {
+        return Frame::Unknown;
+    }
+    let low = word_at(line, 8);
+    if low > 65535 {
+        return Frame::Unknown;
+    }
+    let clocks = high * 65536 + low;
+    match word_at(line, 0) {
+        0x2205 => Frame::To22(Call22::Run(clocks)),
+        0x3205 => Frame::To32(Call32::Run(clocks)),
+        0x4505 => Frame::To45(Call45::Run(clocks)),
+        _ => Frame::Unknown,
+    }
 }
 
 // The frame that a line is, of whatever length and characters; its LF is no part of it.
@@ -64,43 +117,11 @@ pub fn decode(line: &[u8]) -> Frame
     ensures { λ r. ⌜ r ≡ frameOf (now (line .entry)) ⌝ }
 {
     match line.len() {
-        4 => none(byte_at(line, 0), byte_at(line, 2)),
-        6 => one(byte_at(line, 0), byte_at(line, 2), byte_at(line, 4)),
-        8 => two(
-            byte_at(line, 0),
-            byte_at(line, 2),
-            byte_at(line, 4),
-            byte_at(line, 6),
-        ),
-        10 => three(
-            byte_at(line, 0),
-            byte_at(line, 2),
-            byte_at(line, 4),
-            byte_at(line, 6),
-            byte_at(line, 8),
-        ),
-        12 => four(
-            byte_at(line, 0),
-            byte_at(line, 2),
-            byte_at(line, 4),
-            byte_at(line, 6),
-            byte_at(line, 8),
-            byte_at(line, 10),
-        ),
+        4 => none(line),
+        6 => one(line),
+        8 => two(line),
+        10 => three(line),
+        12 => four(line),
         _ => Frame::Unknown,
     }
-}
-
-// Puts a reply after the first `at` bytes, and gives the place after it; without 13 free bytes it puts nothing.
-pub fn put(out: &mut [u8], at: usize, reply: Reply) -> usize
-    ensures { λ r. ⌜ Put (now (out .entry)) (now (out .exit)) at r (render reply) ⌝ }
-{
-    let size = out.len();
-    if size < 13 {
-        return at;
-    }
-    if size - 13 < at {
-        return at;
-    }
-    put_reply(out, at, reply)
 }

@@ -1,4 +1,5 @@
 pub mod Tests
+pub mod Typed
 pub mod On22
 pub mod On32
 pub mod On45

@@ -29,7 +29,7 @@ use Rattle.via6522.proofs.Lines.{line-after}
 use Rattle.marked.specs.Cases.{flag1, flag2, line22, Flags1, Reloads1, Wraps2, Outcome22, T1-flags-at, T1-reloads_forecast_, T2-wraps-unflagged-at, Shows22}
 use Rattle.marked.proofs.Tests.{same, same-comes}
 
--- when the flags and the line come
+-- when the flags are set and the line is asserted
 abbrev due1 : Via → Forecast
 due1 v = Firsts.dueOf (timersOf v .t1)
 
@@ -105,7 +105,7 @@ reloads1-holds latch n v h =
       mark = c .1;
       latched = eqb-true (v .t1 .latch) latch (d .1);
       line = λ k. line-due k v ∙ same-comes (due v) (In n) (f .1) k;
-      told = λ r t. comes-one (r .forecast) (In n) (λ k. sym (t .told (e .1) k) ∙ line-due k v ∙ same-comes (due v) (In n) (f .1) k);
+      told = λ g r t. comes-one g (In n) (λ k. sym (t .told (e .1) k) ∙ line-due k v ∙ same-comes (due v) (In n) (f .1) k);
     }
 
 -- ---- T2 disarmed

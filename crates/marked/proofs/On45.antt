@@ -5,7 +5,7 @@ use Prim.Native.Nat.{ℕ, _*_, _/_, _%_}
 use lib.Dec.{eqb}
 use borrow.Author.Tests.{eqb-true}
 use Rattle.clocks.proofs.Tests.{both}
-use Rattle.crtc6545.specs.Signals.{maOf}
+use Rattle.raster.specs.Signals.{signalsOf}
 use Rattle.crtc6545.specs.Clock.{clockOf}
 use Rattle.crtc6545.specs.declared.Crtc.{Crtc}
 use Rattle.marked.specs.Cases.{field45, Outcome45, frame-of_clocks, start_row_column_MA_, Shows45}
@@ -13,15 +13,15 @@ use Rattle.marked.proofs.Tests.{along, along-holds}
 
 -- after k clocks, as many frames are over as n clocks go into k
 abbrev counts : ℕ → ℕ → Crtc → Bool
-counts n k v = eqb (v .frame .field) (k / n % 32)
+counts n k v = eqb (v .raster .frame .field) (k / n % 32)
 
 abbrev pub passes45 : Outcome45 → Crtc → Bool
 passes45 (frame-of n clocks) v = along clockOf (counts n) (32 * n) 0 v
 passes45 (start s row r column c MA x) v =
-    eqb (v .frame .«frame_start») s
-    && eqb (v .frame .row) r
-    && eqb (v .line .column) c
-    && eqb (maOf (v .registers) (v .line) (v .frame)) x
+    eqb (v .raster .frame .«frame_start») s
+    && eqb (v .raster .frame .row) r
+    && eqb (v .raster .line .column) c
+    && eqb (signalsOf (v .raster) .ma) x
 
 pub passes45-holds : (o : Outcome45) (v : Crtc) → passes45 o v ≡ true → Shows45 o v
 passes45-holds (frame-of n clocks) v e =

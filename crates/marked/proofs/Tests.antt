@@ -13,23 +13,25 @@ use Rattle.clocks.specs.declared.Forecast.{Forecast}
 use Rattle.clocks.specs.declared.Forecast.the-variants.{Never, In}
 use Rattle.clocks.proofs.Clocks.{after-add}
 use Rattle.clocks.proofs.Tests.{both}
+use Rattle.chips.specs.Chips.{Chip, answer, next}
 use Rattle.marked.specs.Cases.{Leads}
 use Rattle.marked.specs.Demands.{Every}
 
--- calls that lead, none refused, to a record that passes p
-module _ {C R : Type 0} (refusal : C → R → ℕ) (leaves : C → R → R) (p : R → Bool) where
-  unfoldable pub leads : List C → R → Bool
+-- calls that lead, none refused, to a record that passes p; which of them are typed is tested too
+module _ (C : Chip) (typed : C .Call → Bool) (is-typed : (c : C .Call) → typed c ≡ true → C .Typed c) (p : C .State → Bool) where
+  unfoldable pub leads : List (C .Call) → C .State → Bool
   leads [] v = p v
-  leads (c ∷ cs) v = eqb (refusal c v) 0 && leads cs (leaves c v)
+  leads (c ∷ cs) v = typed c && eqb (C .number (answer C c v)) 0 && leads cs (next C c v)
 
   pub leads-holds :
-      (P : R → Type 0) → ((v : R) → p v ≡ true → P v)
-      → (cs : List C) (v : R) → leads cs v ≡ true → Leads refusal leaves P cs v
+      (P : C .State → Type 0) → ((v : C .State) → p v ≡ true → P v)
+      → (cs : List (C .Call)) (v : C .State) → leads cs v ≡ true → Leads C P cs v
   unfolding leads Leads
   leads-holds P h [] v e = h v e
   leads-holds P h (c ∷ cs) v e =
-      let b = both (eqb (refusal c v) 0) (leads cs (leaves c v)) e in
-      (eqb-true (refusal c v) 0 (b .0), leads-holds P h cs (leaves c v) (b .1))
+      let b = both (typed c && eqb (C .number (answer C c v)) 0) (leads cs (next C c v)) e in
+      let a = both (typed c) (eqb (C .number (answer C c v)) 0) (b .0) in
+      (is-typed c (a .0), eqb-true (C .number (answer C c v)) 0 (a .1), leads-holds P h cs (next C c v) (b .1))
 
 -- every entry of a list passes p
 module _ {A : Type 0} (p : A → Bool) where

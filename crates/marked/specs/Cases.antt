@@ -7,28 +7,29 @@ use Rattle.clocks.specs.Clocks.{after}
 use Rattle.clocks.specs.Bits.{bit}
 use Rattle.clocks.specs.Forecasts.{comes}
 use Rattle.clocks.specs.declared.Forecast.the-variants.{Never, In}
-use Rattle.via6522.specs.Record as Via6522
-use Rattle.via6522.specs.Flags as Flags22
+use Rattle.clocks.specs.declared.Forecast.{Forecast}
+use Rattle.calls.specs.declared.Call22.{Call22}
+use Rattle.calls.specs.declared.Call32.{Call32}
+use Rattle.calls.specs.declared.Call45.{Call45}
+use Rattle.chips.specs.Chips.{Chip, answer, next, line, Foretold}
 use Rattle.via6522.specs.Access as Access22
 use Rattle.via6522.specs.Clock as Clock22
-use Rattle.via6522.specs.Answers as Answers22
-use Rattle.via6522.specs.Demands as Calls22
+use Rattle.via6522.specs.Chip as Chip22
 use Rattle.via6522.specs.declared.Via.{Via}
-use Rattle.via6522.specs.declared.Outlook.{Outlook}
-use Rattle.riot6532.specs.Record as Riot6532
+use Rattle.via6522.specs.declared.Answer.{Answer}
 use Rattle.riot6532.specs.Clock as Clock32
-use Rattle.riot6532.specs.Demands as Calls32
+use Rattle.riot6532.specs.Chip as Chip32
 use Rattle.riot6532.specs.declared.Riot.{Riot}
-use Rattle.crtc6545.specs.Record as Crtc6545
-use Rattle.crtc6545.specs.Signals as Signals45
+use Rattle.raster.specs.Signals.{signalsOf}
 use Rattle.crtc6545.specs.Clock as Clock45
-use Rattle.crtc6545.specs.Demands as Calls45
+use Rattle.crtc6545.specs.Chip as Chip45
 use Rattle.crtc6545.specs.declared.Crtc.{Crtc}
 
--- the calls are made one after the other, none is refused, and P holds of the record that the last one leaves
-unfoldable pub Leads : {C R : Type 0} → (C → R → ℕ) → (C → R → R) → (R → Type 0) → List C → R → Type 0
-Leads refusal leaves P [] v = P v
-Leads refusal leaves P (c ∷ cs) v = (refusal c v ≡ 0) × Leads refusal leaves P cs (leaves c v)
+-- the calls are made one after the other, each with operands of their types, none is refused, and P holds of the record that the last
+-- one leaves
+unfoldable pub Leads : (C : Chip) → (C .State → Type 0) → List (C .Call) → C .State → Type 0
+Leads C P [] v = P v
+Leads C P (c ∷ cs) v = C .Typed c × (C .number (answer C c v) ≡ 0) × Leads C P cs (next C c v)
 
 -- ---- the 6522
 
@@ -40,18 +41,18 @@ abbrev pub flag2 : ℕ → Via → Bool
 flag2 k v = bit 5 (after k Clock22.clockOf v .ifr)
 
 abbrev pub line22 : ℕ → Via → Bool
-line22 k v = Flags22.irqOf (after k Clock22.clockOf v)
+line22 = line Chip22.chip Chip22.clocked Chip22.lined
 
--- T1's flag comes at each of these clocks and not before it, where a read of register 4 takes it away as it comes;
--- the clocks are counted from the last load, and `now` of them have gone by
+-- T1's flag is set at each of these clocks and not before it, where a read of register 4 clears it each time; the clocks are counted
+-- from the last load, and `now` of them have gone by
 unfoldable pub Flags1 : ℕ → List ℕ → Via → Type 0
 Flags1 now [] v = Unit {0}
 Flags1 now (n ∷ ns) v =
     ((k : ℕ) → flag1 k v ≡ comes (In (n - now)) k)
     × Flags1 n ns (Access22.readOf 4 (after (n - now) Clock22.clockOf v))
 
--- T1 free-runs with a reload of the latch to come, its flag is down and the only one enabled: the line comes at clock n,
--- and no forecast but n is allowed
+-- T1 free-runs with a reload of the latch to come, its flag is clear and the only one enabled: the line is asserted from clock n on, and
+-- no forecast but n is allowed
 pub record Reloads1 (latch n : ℕ) (v : Via) : Type 0 where
   pub free : bit 6 (v .acr) ≡ true
   pub clear : bit 6 (v .ifr) ≡ false
@@ -59,9 +60,9 @@ pub record Reloads1 (latch n : ℕ) (v : Via) : Type 0 where
   pub mark : v .t1 .mark ≡ true
   pub latched : v .t1 .latch ≡ latch
   pub line : (k : ℕ) → line22 k v ≡ comes (In n) k
-  pub told : (r : Outlook) → Answers22.Foretold v r → r .forecast ≡ In n
+  pub told : (f : Forecast) (r : Answer) → Foretold Chip22.chip Chip22.clocked Chip22.lined v f r → f ≡ In n
 
--- T2 is disarmed and goes from 0 to the top at clock n: neither this wrap nor any later one brings its flag
+-- T2 is disarmed and goes from 0 to 65,535 at clock n: neither this wrap nor any later one sets its flag
 pub record Wraps2 (n : ℕ) (v : Via) : Type 0 where
   pub disarmed : v .t2 .armed ≡ false
   pub bottom : after (n - 1) Clock22.clockOf v .t2 .counter ≡ 0
@@ -95,7 +96,7 @@ Shows32 (timer-flag-at n) v = (k : ℕ) → flag32 k v ≡ comes (In n) k
 
 -- the field after k clocks
 abbrev pub field45 : ℕ → Crtc → ℕ
-field45 k v = after k Clock45.clockOf v .frame .field
+field45 k v = after k Clock45.clockOf v .raster .frame .field
 
 -- a frame takes n clocks: through one round of the 32 fields, the field counts the frames that are over
 abbrev pub FrameOf : ℕ → Crtc → Type 0
@@ -103,10 +104,10 @@ FrameOf n v = (k : ℕ) → k ≤ 32 * n → field45 k v ≡ k / n % 32
 
 -- the frame started at `start`, and MA shows `ma` at this row and this column
 pub record Addresses (start row column ma : ℕ) (v : Crtc) : Type 0 where
-  pub started : v .frame .«frame_start» ≡ start
-  pub at-row : v .frame .row ≡ row
-  pub at-column : v .line .column ≡ column
-  pub shown : Signals45.maOf (v .registers) (v .line) (v .frame) ≡ ma
+  pub started : v .raster .frame .«frame_start» ≡ start
+  pub at-row : v .raster .frame .row ≡ row
+  pub at-column : v .raster .line .column ≡ column
+  pub shown : signalsOf (v .raster) .ma ≡ ma
 
 infix 20 start_row_column_MA_
 pub data Outcome45 : Type 0 where
@@ -120,15 +121,12 @@ Shows45 (start s row r column c MA x) = Addresses s r c x
 -- ---- a case of one of the three
 
 pub data Case : Type 0 where
-  on-6522 : List Calls22.Call → Outcome22 → Case
-  on-6532 : List Calls32.Call → Outcome32 → Case
-  on-6545 : List Calls45.Call → Outcome45 → Case
+  on-6522 : List Call22 → Outcome22 → Case
+  on-6532 : List Call32 → Outcome32 → Case
+  on-6545 : List Call45 → Outcome45 → Case
 
 -- from power-up the calls lead, none refused, to the outcome
 abbrev pub Holds : Case → Type 0
-Holds (on-6522 calls o) =
-    Leads (λ c v. Calls22.answerOf c v .refusal) (λ c v. Calls22.answerOf c v .via) (Shows22 o) calls Via6522.powerUp
-Holds (on-6532 calls o) =
-    Leads (λ c v. Calls32.answerOf c v .refusal) (λ c v. Calls32.answerOf c v .riot) (Shows32 o) calls Riot6532.powerUp
-Holds (on-6545 calls o) =
-    Leads (λ c v. Calls45.answerOf c v .refusal) (λ c v. Calls45.answerOf c v .crtc) (Shows45 o) calls Crtc6545.powerUp
+Holds (on-6522 calls o) = Leads Chip22.chip (Shows22 o) calls (Chip22.chip .powerUp)
+Holds (on-6532 calls o) = Leads Chip32.chip (Shows32 o) calls (Chip32.chip .powerUp)
+Holds (on-6545 calls o) = Leads Chip45.chip (Shows45 o) calls (Chip45.chip .powerUp)

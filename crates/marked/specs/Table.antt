@@ -1,50 +1,53 @@
 -- The twelve marked cases, in document 01's order.
 use mathlib.Core.List.{List, [], _∷_, _++_}
 use Prim.Native.Nat.{ℕ, _/_, _%_}
-use Rattle.via6522.specs.Demands as Calls22
-use Rattle.riot6532.specs.Demands as Calls32
-use Rattle.crtc6545.specs.Demands as Calls45
+use Rattle.calls.specs.declared.Call22.{Call22}
+use Rattle.calls.specs.declared.Call22.the-variants as Via
+use Rattle.calls.specs.declared.Call32.{Call32}
+use Rattle.calls.specs.declared.Call32.the-variants as Riot
+use Rattle.calls.specs.declared.Call45.{Call45}
+use Rattle.calls.specs.declared.Call45.the-variants as Crtc
 use Rattle.marked.specs.Cases.{Case, on-6522, on-6532, on-6545, T1-flags-at, T1-reloads_forecast_, T2-wraps-unflagged-at, timer-flag-at, frame-of_clocks, start_row_column_MA_}
 
 -- a timer of the 6522 is loaded by its low and then its high byte: T1 by registers 4 and 5, T2 by 8 and 9
-abbrev pub load1 : ℕ → List Calls22.Call
-load1 n = Calls22.write 4 (n % 256) ∷ Calls22.write 5 (n / 256) ∷ []
+abbrev pub load1 : ℕ → List Call22
+load1 n = Via.Write 4 (n % 256) ∷ Via.Write 5 (n / 256) ∷ []
 
-abbrev pub load2 : ℕ → List Calls22.Call
-load2 n = Calls22.write 8 (n % 256) ∷ Calls22.write 9 (n / 256) ∷ []
+abbrev pub load2 : ℕ → List Call22
+load2 n = Via.Write 8 (n % 256) ∷ Via.Write 9 (n / 256) ∷ []
 
--- bit 6 of ACR has T1 run free, and bit 6 of IER lets its flag through
-abbrev pub free-run : List Calls22.Call
-free-run = Calls22.write 11 64 ∷ []
+-- bit 6 of ACR has T1 run free, and bit 6 of IER enables its flag
+abbrev pub free-run : List Call22
+free-run = Via.Write 11 64 ∷ []
 
-abbrev pub enable1 : List Calls22.Call
-enable1 = Calls22.write 14 192 ∷ []
+abbrev pub enable1 : List Call22
+enable1 = Via.Write 14 192 ∷ []
 
--- T1's latch alone, by registers 6 and 7; the second takes its flag away
-abbrev pub latch1 : ℕ → List Calls22.Call
-latch1 n = Calls22.write 6 (n % 256) ∷ Calls22.write 7 (n / 256) ∷ []
+-- T1's latch alone, by registers 6 and 7; the second clears its flag
+abbrev pub latch1 : ℕ → List Call22
+latch1 n = Via.Write 6 (n % 256) ∷ Via.Write 7 (n / 256) ∷ []
 
--- one clock, and the read that takes T2's flag away
-abbrev pub clock22 : List Calls22.Call
-clock22 = Calls22.clock ∷ []
+-- one clock, and the read that clears T2's flag
+abbrev pub clock22 : List Call22
+clock22 = Via.Run 1 ∷ []
 
-abbrev pub clear2 : List Calls22.Call
-clear2 = Calls22.read 8 ∷ []
+abbrev pub clear2 : List Call22
+clear2 = Via.Read 8 ∷ []
 
 -- the 6532's timer is loaded over 8 at address 149, and over 1024 at 151
-abbrev pub load-over-8 : ℕ → List Calls32.Call
-load-over-8 x = Calls32.write 149 x ∷ []
+abbrev pub load-over-8 : ℕ → List Call32
+load-over-8 x = Riot.Write 149 x ∷ []
 
-abbrev pub load-over-1024 : ℕ → List Calls32.Call
-load-over-1024 x = Calls32.write 151 x ∷ []
+abbrev pub load-over-1024 : ℕ → List Call32
+load-over-1024 x = Riot.Write 151 x ∷ []
 
 -- a register of the 6545 is set by its number at address 0 and its value at address 1
-abbrev pub registers : List (ℕ × ℕ) → List Calls45.Call
+abbrev pub registers : List (ℕ × ℕ) → List Call45
 registers [] = []
-registers (r ∷ rs) = Calls45.write 0 (r .0) ∷ Calls45.write 1 (r .1) ∷ registers rs
+registers (r ∷ rs) = Crtc.Write 0 (r .0) ∷ Crtc.Write 1 (r .1) ∷ registers rs
 
-abbrev pub run45 : ℕ → List Calls45.Call
-run45 n = Calls45.run n ∷ []
+abbrev pub run45 : ℕ → List Call45
+run45 n = Crtc.Run n ∷ []
 
 -- The fourth has T1 pass zero with its first clock, so that a reload is to come, and then gives it the latch; the fifth has T2 wrap
 -- with its first clock, which disarms it. The last two run to their place: two lines of 4 clocks and 1 clock more, and 23 rows of

@@ -1,7 +1,4 @@
-pub mod Formed
-pub mod Clocked
-pub mod Runs
 pub mod Lines
-pub mod Judged
-pub mod Kept
+pub mod Keeps
+pub mod Lawful
 pub mod Demands

@@ -5,10 +5,9 @@ use lib.Dec.{eqb}
 use lib.ListN.{getD, set}
 use Rattle.clocks.specs.Clocks.{if_then_else_}
 use Rattle.clocks.specs.Bits.{bit}
-use Rattle.riot6532.specs.Record.{withRam, withIo, withTimer, withPa7, flagged}
-use Rattle.riot6532.specs.Ports.{linesOf}
-use Rattle.riot6532.specs.declared.Timer.{Timer}
-use Rattle.riot6532.specs.declared.Pa7.{Pa7}
+use Rattle.interval.specs.Timer.{loaded, flagged}
+use Rattle.ports.specs.Ports.{linesOf}
+use Rattle.riot6532.specs.Record.{beside, withTimer, withPa7}
 use Rattle.riot6532.specs.declared.Io.{Io}
 use Rattle.riot6532.specs.declared.Riot.{Riot}
 
@@ -21,42 +20,30 @@ portWritten k x io =
       a =
           record {
             output = if eqb k 0 then x else io .a .output;
-            ddr = if eqb k 1 then x else io .a .ddr;
             outside = io .a .outside;
+            ddr = if eqb k 1 then x else io .a .ddr;
           };
       b =
           record {
             output = if eqb k 2 then x else io .b .output;
-            ddr = if eqb k 3 then x else io .b .ddr;
             outside = io .b .outside;
+            ddr = if eqb k 3 then x else io .b .ddr;
           };
       timer = io .timer;
       pa7 = io .pa7;
     }
 
--- the divider that k names
-abbrev pub dividerOf : ℕ → ℕ
-dividerOf k = if eqb k 0 then 1 else if eqb k 1 then 8 else if eqb k 2 then 64 else 1024
-
--- a load starts the timer anew at the byte written: its first count comes with the next clock, and the address says divider and enable
-abbrev pub loaded : ℕ → ℕ → Timer
-loaded a x =
-    record { value = x; divider = dividerOf (a % 4); prescaler = 1; expired = false; flag = false; enable = bit 3 a }
-
--- the address, not the byte written, says which edge of PA7 counts and whether it interrupts; a flag that stands is left
-abbrev pub controlled : ℕ → Pa7 → Pa7
-controlled a e = record { flag = e .flag; enable = bit 1 a; rising = bit 0 a }
-
--- bit 2 clear: a port or a direction; set: bit 4 set loads the timer, bit 4 clear sets how PA7 is watched
+-- bit 2 clear: a port or a direction; set: with bit 4 a load of the timer, by divider and enable of the address, and without it
+-- the control of PA7, where the address says enable and edge, and a flag that is set is left
 unfoldable pub ioWritten : ℕ → ℕ → Io → Io
 ioWritten a x io =
     if not (bit 2 a) then portWritten (a % 4) x io else
-    if bit 4 a then withTimer (loaded a x) io else
-    withPa7 (controlled a (io .pa7)) io
+    if bit 4 a then withTimer (loaded (a % 4) x (bit 3 a)) io else
+    withPa7 (record { flag = io .pa7 .flag; enable = bit 1 a; rising = bit 0 a }) io
 
 -- address bit 7 parts the RAM from all else
 unfoldable pub writeOf : ℕ → ℕ → Riot → Riot
-writeOf a x v = if not (bit 7 a) then withRam (set (v .ram) (a % 128) x) v else withIo (ioWritten a x (v .io)) v
+writeOf a x v = if not (bit 7 a) then beside (set (v .ram) (a % 128) x) (v .io) else beside (v .ram) (ioWritten a x (v .io))
 
 -- ---- reads
 
@@ -77,7 +64,7 @@ ioData a io = if not (bit 2 a) then portData (a % 4) io else if not (bit 0 a) th
 unfoldable pub dataOf : ℕ → Riot → ℕ
 dataOf a v = if not (bit 7 a) then getD (v .ram) (a % 128) 0 else ioData a (v .io)
 
--- reading the timer takes its flag away and sets its enable from the address; reading the flags takes PA7's away; no other read has an effect
+-- reading the timer clears its flag and sets its enable from the address; reading the flags clears PA7's; no other read has an effect
 unfoldable pub ioRead : ℕ → Io → Io
 ioRead a io =
     if not (bit 2 a) then io else
@@ -85,4 +72,4 @@ ioRead a io =
     withPa7 (record { flag = false; enable = io .pa7 .enable; rising = io .pa7 .rising }) io
 
 unfoldable pub readOf : ℕ → Riot → Riot
-readOf a v = if not (bit 7 a) then v else withIo (ioRead a (v .io)) v
+readOf a v = if not (bit 7 a) then v else beside (v .ram) (ioRead a (v .io))

@@ -1,7 +1,8 @@
 pub mod Record
+pub mod Flags
 pub mod Access
-pub mod Ports
+pub mod Pins
 pub mod Clock
-pub mod Answers
 pub mod Closed
+pub mod Chip
 pub mod Demands

@@ -1,45 +1,11 @@
 // Reads and writes of everything but the RAM, by the bits of the address.
 ghost use mathlib.Core.Path.{_≡_};
 ghost use Prim.Native.Nat.{_%_};
-ghost use Rattle.riot6532.specs.Record.{withTimer, withPa7, flagged};
-ghost use Rattle.riot6532.specs.Access.{dividerOf, portWritten, loaded as loadedOf, controlled as controlledOf, ioWritten, portData, flagsOf, ioData, ioRead};
+ghost use Rattle.riot6532.specs.Access.{portWritten, ioWritten, portData, flagsOf, ioData, ioRead};
 use crate::Io;
-use crate::Pa7;
-use crate::Timer;
 use clocks::bit;
 use clocks::choose8;
-use clocks::choose16;
-
-fn divider(k: u8) -> u16
-    ensures { λ r. ⌜ r ≡ dividerOf k ⌝ }
-{
-    choose16(k == 0, 1, choose16(k == 1, 8, choose16(k == 2, 64, 1024)))
-}
-
-fn loaded(address: u8, value: u8) -> Timer
-    ensures { λ r. ⌜ r ≡ loadedOf address value ⌝ }
-{
-    Timer {
-        value,
-        divider: divider(address % 4),
-        prescaler: 1,
-        expired: false,
-        flag: false,
-        enable: bit(3, address),
-    }
-}
-
-impl Pa7 {
-    fn controlled(self, address: u8) -> Pa7
-        ensures { λ r. ⌜ r ≡ controlledOf address self ⌝ }
-    {
-        Pa7 {
-            flag: self.flag,
-            enable: bit(1, address),
-            rising: bit(0, address),
-        }
-    }
-}
+use interval::Timer;
 
 impl Io {
     fn port_written(mut self, k: u8, value: u8) -> Io
@@ -63,23 +29,27 @@ impl Io {
             return self.port_written(address % 4, value);
         }
         if bit(4, address) {
-            self.timer = loaded(address, value);
+            self.timer = Timer::load(address % 4, value, bit(3, address));
             return self;
         }
-        let pa7 = self.pa7;
-        self.pa7 = pa7.controlled(address);
+        let enable = bit(1, address);
+        let rising = bit(0, address);
+        self.pa7.enable = enable;
+        self.pa7.rising = rising;
         self
     }
 
     fn port_data(self, k: u8) -> u8
         ensures { λ r. ⌜ r ≡ portData k self ⌝ }
     {
-        let a = self.a;
-        let b = self.b;
         choose8(
             k == 0,
-            a.lines(),
-            choose8(k == 1, a.ddr, choose8(k == 2, b.lines(), b.ddr)),
+            self.a.lines(),
+            choose8(
+                k == 1,
+                self.a.ddr,
+                choose8(k == 2, self.b.lines(), self.b.ddr),
+            ),
         )
     }
 

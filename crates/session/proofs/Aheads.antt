@@ -1,81 +1,81 @@
--- What a forecast promises is what looking ahead finds.
+-- What a forecast promises is what looking ahead finds, and so the reply to it.
 use mathlib.Core.Path.{_≡_, refl, sym, ap, ap₂, _∙_}
 use mathlib.Core.Bool.{Bool, true, false}
-use Prim.Native.Nat.{ℕ, _<_}
-use Rattle.clocks.specs.Clocks.{after}
-use Rattle.clocks.specs.Forecasts.{numberOf}
-use Rattle.clocks.proofs.Forecasts.{first-is}
+use Prim.Native.Nat.{ℕ, suc, _<_}
+use Rattle.clocks.specs.Forecasts.{numberOf, firstFrom}
+use Rattle.clocks.specs.declared.Forecast.{Forecast}
+use Rattle.clocks.proofs.Forecasts.{AtMost, first-is}
+use Rattle.replies.specs.declared.Reply.{Reply}
+use Rattle.replies.specs.declared.Reply.the-variants.{Ahead}
+use Rattle.chips.specs.Chips.{Chip, answer, Clocked, Lined, line, Foretold}
+use Rattle.chips.proofs.Chips.{Lawful, refuses-ill, reached-well}
+use Rattle.calls.specs.declared.Call22.the-variants as Via
+use Rattle.calls.specs.declared.Call32.the-variants as Riot
 use Rattle.via6522.specs.Record as Via6522
-use Rattle.via6522.specs.Flags as Flags22
-use Rattle.via6522.specs.Clock as Clock22
-use Rattle.via6522.specs.Answers as Answers22
-use Rattle.via6522.specs.Demands as Calls22
+use Rattle.via6522.specs.Chip as Chip22
 use Rattle.via6522.specs.declared.Via.{Via}
 use Rattle.via6522.specs.declared.Answer as Answer22
-use Rattle.via6522.specs.declared.Outlook as Outlook22
-use Rattle.via6522.proofs.Kept.{Ranged, reached-ranged}
+use Rattle.via6522.proofs.Keeps.{Ranged}
+use Rattle.via6522.proofs.Lawful as Lawful22
 use Rattle.via6522.proofs.Demands as Proved22
-use Rattle.riot6532.specs.Record as Riot6532
-use Rattle.riot6532.specs.Ports as Ports32
-use Rattle.riot6532.specs.Clock as Clock32
-use Rattle.riot6532.specs.Answers as Answers32
-use Rattle.riot6532.specs.Demands as Calls32
+use Rattle.riot6532.specs.Chip as Chip32
 use Rattle.riot6532.specs.declared.Riot.{Riot}
 use Rattle.riot6532.specs.declared.Answer as Answer32
-use Rattle.riot6532.specs.declared.Outlook as Outlook32
-use Rattle.riot6532.proofs.Kept.{reached-sound}
+use Rattle.riot6532.proofs.Lawful as Lawful32
 use Rattle.riot6532.proofs.Demands as Proved32
-use Rattle.session.specs.Steps.{forecast22, ahead22, forecast32, ahead32}
+use Rattle.session.specs.Steps.{replied, lineOf, forecast22, reply22, forecast32, reply32}
 use Rattle.session.specs.Demands
 
-told22 :
-    (v : Via) (r : Outlook22.Outlook) → Ranged v → Via6522.wellFormed v ≡ true → Answers22.Foretold v r
-    → forecast22 v ≡ numberOf (r .forecast)
-unfolding forecast22
-told22 v r h w f =
-    ap numberOf (first-is 65537 (λ k. Flags22.irqOf (after k Clock22.clockOf v)) (r .forecast) (f .told w) (Proved22.forecast-most v r h w f))
+-- of any chip with a line, whose forecast is at most m where the record is well formed
+module _ (C : Chip) (S : Lawful C) (T : Clocked C) (L : Lined C) (shown : C .Answer → ℕ) (m : ℕ) (v : C .State) (f : Forecast) (r : C .Answer)
+    (most : C .well v ≡ true → AtMost m f) (t : Foretold C T L v f r) where
+  looked : C .well v ≡ true → numberOf (firstFrom (suc m) 0 (λ k. line C T L k v)) ≡ numberOf f
+  looked w = ap numberOf (first-is m (λ k. line C T L k v) f (t .told w) (most w))
+
+  -- the reply to a forecast, by the number that was promised and by the one that looking ahead finds
+  abbrev ahead : ℕ → C .Answer → Reply
+  ahead n a = replied (C .number a) (Ahead (shown a) n)
+
+  ahead-is : ahead (numberOf f) r ≡ ahead (numberOf (firstFrom (suc m) 0 (λ k. line C T L k v))) (answer C (L .forecast) v)
+  ahead-is = go (C .well v) refl
+    where
+      found : ℕ
+      found = numberOf (firstFrom (suc m) 0 (λ k. line C T L k v))
+
+      refused : (n k : ℕ) → ahead n (C .refused 1 v) ≡ ahead k (C .refused 1 v)
+      refused n k = rw (S .number-refused 1 v)
+
+      go : (b : Bool) → C .well v ≡ b → ahead (numberOf f) r ≡ ahead found (answer C (L .forecast) v)
+      go true w = ap₂ ahead (sym (looked w)) (t .answered)
+      go false w =
+          let e = refuses-ill C S (L .forecast) v w in
+          ap (ahead (numberOf f)) (t .answered ∙ e) ∙ refused (numberOf f) found ∙ ap (ahead found) (sym e)
 
 pub ahead22-is :
-    (v : Via) (r : Outlook22.Outlook) → Ranged v → Answers22.Foretold v r
-    → ahead22 (numberOf (r .forecast)) (r .answer) ≡ ahead22 (forecast22 v) (Calls22.answerOf Calls22.forecast v)
-ahead22-is v r h f = go (Via6522.wellFormed v) refl
-  where
-    go :
-        (b : Bool) → Via6522.wellFormed v ≡ b
-        → ahead22 (numberOf (r .forecast)) (r .answer) ≡ ahead22 (forecast22 v) (Calls22.answerOf Calls22.forecast v)
-    go true w =
-        ap₂ (λ (n : ℕ) (a : Answer22.Answer). ahead22 n a)
-        (sym (told22 v r h w f))
-        (f .answer)
-    go false w =
-        let e = Proved22.refuses-ill Calls22.forecast v w in
-        ap (ahead22 (numberOf (r .forecast))) (f .answer ∙ e) ∙ ap (ahead22 (forecast22 v)) (sym e)
-
-told32 :
-    (v : Riot) (r : Outlook32.Outlook) → v .io .timer .value < 256 → Riot6532.wellFormed v ≡ true → Answers32.Foretold v r
-    → forecast32 v ≡ numberOf (r .forecast)
-unfolding forecast32
-told32 v r h w f =
-    ap numberOf (first-is 262144 (λ k. Ports32.irqOf (after k Clock32.clockOf v .io)) (r .forecast) (f .told w) (Proved32.forecast-most v r h w f))
+    (v : Via) (f : Forecast) (r : Answer22.Answer) → Ranged v → Foretold Chip22.chip Chip22.clocked Chip22.lined v f r
+    → replied (r .refusal) (Ahead (lineOf (r .irq)) (numberOf f)) ≡ reply22 v Via.Forecast
+unfolding forecast22
+ahead22-is v f r h t =
+    ahead-is Chip22.chip Lawful22.lawful Chip22.clocked Chip22.lined (λ (a : Answer22.Answer). lineOf (a .irq)) 65537 v f r
+    (λ w. Proved22.forecast-most v f r h w t) t
 
 pub ahead32-is :
-    (v : Riot) (r : Outlook32.Outlook) → v .io .timer .value < 256 → Answers32.Foretold v r
-    → ahead32 (numberOf (r .forecast)) (r .answer) ≡ ahead32 (forecast32 v) (Calls32.answerOf Calls32.forecast v)
-ahead32-is v r h f = go (Riot6532.wellFormed v) refl
-  where
-    go :
-        (b : Bool) → Riot6532.wellFormed v ≡ b
-        → ahead32 (numberOf (r .forecast)) (r .answer) ≡ ahead32 (forecast32 v) (Calls32.answerOf Calls32.forecast v)
-    go true w =
-        ap₂ (λ (n : ℕ) (a : Answer32.Answer). ahead32 n a)
-        (sym (told32 v r h w f))
-        (f .answer)
-    go false w =
-        let e = Proved32.refuses-ill Calls32.forecast v w in
-        ap (ahead32 (numberOf (r .forecast))) (f .answer ∙ e) ∙ ap (ahead32 (forecast32 v)) (sym e)
+    (v : Riot) (f : Forecast) (r : Answer32.Answer) → v .io .timer .value < 256 → Foretold Chip32.chip Chip32.clocked Chip32.lined v f r
+    → replied (r .refusal) (Ahead (lineOf (r .irq)) (numberOf f)) ≡ reply32 v Riot.Forecast
+unfolding forecast32
+ahead32-is v f r h t =
+    ahead-is Chip32.chip Lawful32.lawful Chip32.clocked Chip32.lined (λ (a : Answer32.Answer). lineOf (a .irq)) 262144 v f r
+    (λ w. Proved32.forecast-most v f r h w t) t
 
 pub forecast-told : Demands.Forecast-told
+unfolding forecast22 forecast32
 forecast-told = (
-  λ v r reached f. told22 v r (reached-ranged v reached) (Proved22.reached-well v reached) f,
-  λ v r reached f. told32 v r (reached-sound v reached .byte) (Proved32.reached-well v reached) f,
+  λ v f r reached t.
+      let w = reached-well Chip22.chip Lawful22.lawful v reached in
+      looked Chip22.chip Lawful22.lawful Chip22.clocked Chip22.lined (λ a. 0) 65537 v f r
+      (λ w. Proved22.forecast-most v f r (Proved22.reached-ranged v reached) w t) t w,
+  λ v f r reached t.
+      let w = reached-well Chip32.chip Lawful32.lawful v reached in
+      looked Chip32.chip Lawful32.lawful Chip32.clocked Chip32.lined (λ a. 0) 262144 v f r
+      (λ w. Proved32.forecast-most v f r (Proved32.reached-byte v reached) w t) t w,
 )

@@ -1,8 +1,8 @@
--- The lines of a file that is cut, and of a line that goes on beyond what is kept of it.
+-- The answers to a file that is cut, though not all of a line is kept that goes on.
 use mathlib.Core.Path.{_≡_, refl, ap, sym, _∙_}
 use mathlib.Core.Bool.{Bool, true, false}
-use mathlib.Core.List.{List, [], _∷_, _++_, append-assoc, append-nil}
-use Prim.Native.Nat.{ℕ, zero, suc, _<_, _≤_}
+use mathlib.Core.List.{List, [], _∷_, _++_, append-assoc}
+use Prim.Native.Nat.{ℕ, _<_, _≤_}
 use native.Mathlib.Decide.{decLe}
 use native.Mathlib.Omega.{arith}
 use lib.Dec.{eqb}
@@ -10,82 +10,15 @@ use lib.ListN.{length, take, length-append}
 use lib.Seq.{take-all, length-take-le}
 use Rattle.clocks.specs.Clocks.{if_then_else_}
 use Rattle.frames.specs.declared.Frame.{Frame}
-use Rattle.frames.specs.Replies.{render}
-use Rattle.frames.proofs.Texts.{long-unknown}
+use Rattle.replies.specs.Replies.{render}
+use Rattle.frames.proofs.Lines.{long-unknown}
 use Rattle.session.specs.Steps.{stepOf}
-use Rattle.session.specs.Sessions.{ended, open-line, last-line, nextOf, saysOf, nextAll, saysAll, session}
-use Rattle.session.specs.Pieces.{Held, at-start, held, wrote, written-for, joined}
+use Rattle.lines.specs.Lines.{ended, open-line, last-line, joined, Quiet}
+use Rattle.lines.proofs.Lines.{ended-append, open-append, ended-behind, open-behind, quiet-take, open-quiet}
+use Rattle.session.specs.Sessions.{nextOf, saysOf, nextAll, saysAll, session}
+use Rattle.session.specs.Pieces.{Held, at-start, held, wrote, written-for}
 use Rattle.session.specs.declared.Bench.{Bench}
-
--- cutting a file in two cuts its list of lines in two, the second part starting in the line that the first left open
-pub ended-append : (l a b : List ℕ) → ended l (a ++ b) ≡ ended l a ++ ended (open-line l a) b
-ended-append l [] b = refl
-ended-append l (x ∷ a) b = go (eqb x 10) (ended-append [] a b) (ended-append (l ++ x ∷ []) a b)
-  where
-    go :
-        (t : Bool) → ended [] (a ++ b) ≡ ended [] a ++ ended (open-line [] a) b
-        → ended (l ++ x ∷ []) (a ++ b) ≡ ended (l ++ x ∷ []) a ++ ended (open-line (l ++ x ∷ []) a) b
-        → (if t then l ∷ ended [] (a ++ b) else ended (l ++ x ∷ []) (a ++ b))
-        ≡ (if t then l ∷ ended [] a else ended (l ++ x ∷ []) a)
-        ++ ended (if t then open-line [] a else open-line (l ++ x ∷ []) a) b
-    go true e f = ap {B = List (List ℕ)} (λ r. l ∷ r) e
-    go false e f = f
-
-pub open-append : (l a b : List ℕ) → open-line l (a ++ b) ≡ open-line (open-line l a) b
-open-append l [] b = refl
-open-append l (x ∷ a) b = go (eqb x 10) (open-append [] a b) (open-append (l ++ x ∷ []) a b)
-  where
-    go :
-        (t : Bool) → open-line [] (a ++ b) ≡ open-line (open-line [] a) b
-        → open-line (l ++ x ∷ []) (a ++ b) ≡ open-line (open-line (l ++ x ∷ []) a) b
-        → (if t then open-line [] (a ++ b) else open-line (l ++ x ∷ []) (a ++ b))
-        ≡ open-line (if t then open-line [] a else open-line (l ++ x ∷ []) a) b
-    go true e f = e
-    go false e f = f
-
-pub says-append : (b : Bench) (x y : List (List ℕ)) → saysAll b (x ++ y) ≡ saysAll b x ++ saysAll (nextAll b x) y
-says-append b [] y = refl
-says-append b (l ∷ x) y =
-    ap (λ (r : List ℕ). saysOf b l ++ r) (says-append (nextOf b l) x y)
-    ∙ sym (append-assoc (saysOf b l) (saysAll (nextOf b l) x) _)
-
--- a text without LF
-unfoldable pub Quiet : List ℕ → Type 0
-Quiet [] = Unit {0}
-Quiet (x ∷ l) = (eqb x 10 ≡ false) × Quiet l
-
-pub quiet-ended : (p l : List ℕ) → Quiet l → ended p l ≡ []
-unfolding Quiet
-quiet-ended p [] q = refl
-quiet-ended p (x ∷ l) q = rw (q .0) (quiet-ended (p ++ x ∷ []) l (q .1))
-
-pub quiet-open : (p l : List ℕ) → Quiet l → open-line p l ≡ p ++ l
-unfolding Quiet
-quiet-open p [] q = sym (append-nil p)
-quiet-open p (x ∷ l) q = rw (q .0) (quiet-open (p ++ x ∷ []) l (q .1) ∙ append-assoc p (x ∷ []) l)
-
-pub quiet-append : (a b : List ℕ) → Quiet a → Quiet b → Quiet (a ++ b)
-unfolding Quiet
-quiet-append [] b q r = r
-quiet-append (x ∷ a) b q r = (q .0, quiet-append a b (q .1) r)
-
-quiet-take : (n : ℕ) (l : List ℕ) → Quiet l → Quiet (take n l)
-unfolding Quiet
-quiet-take zero l q = tt
-quiet-take (suc n) [] q = tt
-quiet-take (suc n) (x ∷ l) q = (q .0, quiet-take n l (q .1))
-
-open-quiet : (p s : List ℕ) → Quiet p → Quiet (open-line p s)
-unfolding Quiet
-open-quiet p [] q = q
-open-quiet p (x ∷ s) q =
-    go (eqb x 10) refl (open-quiet [] s tt) (λ f. open-quiet (p ++ x ∷ []) s (quiet-append p (x ∷ []) q (f, tt)))
-  where
-    go :
-        (t : Bool) → eqb x 10 ≡ t → Quiet (open-line [] s) → (eqb x 10 ≡ false → Quiet (open-line (p ++ x ∷ []) s))
-        → Quiet (if t then open-line [] s else open-line (p ++ x ∷ []) s)
-    go true e a b = a
-    go false e a b = b e
+use Rattle.session.proofs.Taking.{says-append}
 
 -- the answers to the rest of a file in the middle of whose line l we stand
 answers : Bench → List ℕ → List ℕ → List ℕ
@@ -142,10 +75,8 @@ from-held : (h : Held) (pieces : List (List ℕ)) → Quiet (h .kept) → writte
 unfolding answers
 from-held h [] q = refl
 from-held h (piece ∷ pieces) q =
-    let e : ended [] (h .kept ++ piece) ≡ ended (h .kept) piece =
-    ended-append [] (h .kept) piece ∙ rw (quiet-ended [] (h .kept) q, quiet-open [] (h .kept) q) in
-    let o : open-line [] (h .kept ++ piece) ≡ open-line (h .kept) piece =
-    open-append [] (h .kept) piece ∙ rw (quiet-open [] (h .kept) q) in
+    let e = ended-behind (h .kept) piece q in
+    let o = open-behind (h .kept) piece q in
     let r : Quiet (held h piece .kept) = rw o (quiet-take 33 _ (open-quiet (h .kept) piece q)) in
     ap (λ (t : List ℕ). wrote h piece ++ t)
     (from-held (held h piece) pieces r ∙ trimmed (held h piece .bench) (open-line [] (h .kept ++ piece)) (joined pieces))

@@ -40,6 +40,3 @@ feeds-one = Ones.feeds-one
 
 pub finishes-one : Demands.Finishes-one
 finishes-one = Ones.finishes-one
-
-pub keeps-one : Demands.Keeps-one
-keeps-one = Ones.keeps-one

@@ -1,177 +1,173 @@
--- The loop of `feed`: what holds at each byte, how it goes on, and what it comes to.
-use mathlib.Core.Path.{_≡_, refl, ap, ap₂, sym, _∙_}
+-- The loop over the lines of an input: what holds at each line, how it goes on, and what it comes to.
+use mathlib.Core.Path.{_≡_, refl, ap, sym, _∙_}
+use mathlib.Core.Bool.{Bool, true, false}
 use mathlib.Core.List.{List, [], _∷_, _++_, append-assoc, append-nil}
-use Prim.Native.Nat.{ℕ, suc, _+_, _-_, _<_, _≤_}
+use Prim.Native.Nat.{ℕ, _+_, _-_, _<_, _≤_}
 use native.Mathlib.Nat.{sub-zero, zero-add, add-zero}
-use native.Mathlib.Numerals.{add-one}
 use native.Mathlib.Omega.{arith}
-use lib.ListN.{length, getD, take, drop, length-drop}
-use lib.Seq.{drop-cons, take-suc, getD-drop, drop-length, length-take-le}
-use borrow.Author.Tests.{eq-eqb, ne-eqb, le-leb, lt-leb}
+use lib.ListN.{length, take, drop, length-drop, drop-of-length-le}
+use lib.Seq.{length-take-le, take-all}
+use borrow.Author.Tests.{le-leb, lt-leb}
+use Rattle.clocks.proofs.Lists.{drop-later}
+use Rattle.lines.specs.Lines.{last-line, endFrom}
+use Rattle.lines.proofs.Demands as Lines
 use Rattle.frames.specs.Frames.{frameOf}
-use Rattle.frames.specs.Replies.{render, Put}
-use Rattle.frames.proofs.Texts.{render-short, drop-later}
-use Rattle.frames.specs.declared.Call22.{Call22}
-use Rattle.frames.specs.declared.Call32.{Call32}
-use Rattle.frames.specs.declared.Call45.{Call45}
-use Rattle.frames.specs.declared.Frame.{Frame}
-use Rattle.frames.specs.declared.Frame.the-variants.{Unknown, To22, To32, To45}
-use Rattle.frames.specs.declared.Reply.the-variants.{Refused}
-use Rattle.session.specs.Steps.{on22, on32, on45, stepOf}
-use Rattle.session.specs.Sessions.{ended, nextOf, saysOf}
-use Rattle.session.specs.Pieces.{Taken, before, takes, Feeds}
+use Rattle.replies.specs.Replies.{render, Put}
+use Rattle.replies.proofs.Demands.{replies-fit}
+use Rattle.session.specs.Steps.{stepOf}
+use Rattle.session.specs.Sessions.{nextOf, saysOf, saysAll}
+use Rattle.session.specs.Core.{joined, coreOf}
+use Rattle.session.specs.declared.Core.{Core}
+use Rattle.session.specs.Pieces.{Taken, before, takes, Feeds, Finishes, linesIn, Ends}
 use Rattle.session.specs.declared.Bench.{Bench}
-use Rattle.session.specs.declared.After22.{After22}
-use Rattle.session.specs.declared.After32.{After32}
-use Rattle.session.specs.declared.After45.{After45}
+use Rattle.session.specs.declared.Fed.{Fed}
 use Rattle.session.specs.declared.Stepped.{Stepped}
+
+-- ---- where a line ends
+
+last-some : (s : List ℕ) → 0 < length s → last-line s ≡ s ∷ []
+last-some [] h = absurd (omega arith)
+last-some (x ∷ s) h = refl
+
+none-in : (whole : Bool) → linesIn whole [] ≡ []
+unfolding linesIn
+none-in true = refl
+none-in false = refl
+
+module _ (s : List ℕ) (at : ℕ) (h : at < length s) where
+  pub ends-whole : Ends true s at (length s)
+  unfolding linesIn
+  ends-whole =
+      let some : 0 < length (drop at s) = simp length-drop (omega arith) in
+      let all : length (drop at s) ≤ length s - at = simp length-drop (omega arith) in
+      let none : drop (length s + 1) s ≡ [] = drop-of-length-le s {i = length s + 1} (omega arith) in
+      record {
+        begun = omega arith;
+        found = λ k. rw (take-all (length s - at) (drop at s) all, none) (last-some (drop at s) some);
+        missing = λ k. absurd (omega arith);
+      }
+
+  pub ends-missing : endFrom s at ≡ length s → Ends false s at (length s + 1)
+  unfolding linesIn
+  ends-missing e = record { begun = omega arith; found = λ k. absurd (omega arith); missing = λ k. Lines.end-missing s at e .0 }
+
+  pub ends-found : (endFrom s at ≡ length s → ⊥) → Ends false s at (endFrom s at)
+  unfolding linesIn
+  ends-found n =
+      let w = Lines.end-within s at in
+      record {
+        begun = w .1 (omega arith);
+        found = λ k. Lines.end-found s at (omega arith);
+        missing = λ k. absurd (omega (arith, w .0));
+      }
+
+-- ---- line by line
 
 -- no answer is longer than 13 bytes
 pub says-short : (b : Bench) (l : List ℕ) → length (saysOf b l) ≤ 13
 unfolding saysOf
-says-short b l = render-short (stepOf b (frameOf l) .reply)
+says-short b l = replies-fit (stepOf b (frameOf l) .reply)
 
--- the stretch of s between two places
-abbrev pub part : List ℕ → ℕ → ℕ → List ℕ
-part s at i = take (i - at) (drop at s)
+-- what is taken behind n bytes that were used and a text that was written
+abbrev behind : ℕ → List ℕ → Taken → Taken
+behind n x t = record { bench = t .bench; used = n + t .used; text = x ++ t .text }
 
-part-empty : (s : List ℕ) (i : ℕ) → part s i i ≡ []
-part-empty s i = let e : i - i ≡ 0 = omega arith in rw e
-
-part-more : (s : List ℕ) (at i : ℕ) → at ≤ i → i < length s → part s at (i + 1) ≡ part s at i ++ getD s i 0 ∷ []
-part-more s at i h k =
-    let e : i + 1 - at ≡ suc (i - at) = omega arith in
-    let f : at + (i - at) ≡ i = omega arith in
-    let g : i - at < length (drop at s) = simp length-drop (omega arith) in
-    rw (e, take-suc (drop at s) (i - at) 0 g, getD-drop at s (i - at) 0, f)
-
-part-length : (s : List ℕ) (at i : ℕ) → at ≤ i → i ≤ length s → length (part s at i) ≡ i - at
-part-length s at i h k = length-take-le (i - at) (drop at s) (simp length-drop (omega arith))
-
--- what is left to take, with `made` of `room` bytes written, from i on in a line that began at `at`
-abbrev left : ℕ → List ℕ → Bench → ℕ → ℕ → ℕ → Taken
-left room s b at made i = takes (room - made) b (ended (part s at i) (drop i s))
-
-pub record Going (b₀ : Bench) (s out₀ out : List ℕ) (b : Bench) (at made i : ℕ) : Type 0 where
-  pub begun : at ≤ i
-  pub within : i ≤ length s
+pub record Going (b₀ : Bench) (ls : List (List ℕ)) (out₀ out : List ℕ) (b : Bench) (at made : ℕ) (left : List (List ℕ)) : Type 0 where
   pub room : made ≤ length out
   pub sized : length out ≡ length out₀
   pub beyond : drop made out ≡ drop made out₀
-  pub benches : takes (length out₀) b₀ (ended [] s) .bench ≡ left (length out₀) s b at made i .bench
-  pub uses : takes (length out₀) b₀ (ended [] s) .used ≡ at + left (length out₀) s b at made i .used
-  pub texts : takes (length out₀) b₀ (ended [] s) .text ≡ take made out ++ left (length out₀) s b at made i .text
+  pub taken : takes (length out₀) b₀ ls ≡ behind at (take made out) (takes (length out₀ - made) b left)
 
-pub going-start : (b : Bench) (s out : List ℕ) → Going b s out out b 0 0 0
-going-start b s out =
-    record {
-      begun = omega arith;
-      within = omega arith;
-      room = omega arith;
-      sized = refl;
-      beyond = refl;
-      benches = rw sub-zero;
-      uses = rw (sub-zero, zero-add);
-      texts = rw sub-zero;
-    }
+pub going-start : (b : Bench) (ls : List (List ℕ)) (out : List ℕ) → Going b ls out out b 0 0 ls
+going-start b ls out = record { room = omega arith; sized = refl; beyond = refl; taken = rw (sub-zero, zero-add) }
 
-module _ {b₀ : Bench} {s out₀ out : List ℕ} {b : Bench} {at made i : ℕ} (g : Going b₀ s out₀ out b at made i) where
-  -- a byte that is no LF
-  pub going-byte : i < length s → (getD s i 0 ≡ 10 → ⊥) → Going b₀ s out₀ out b at made (i + 1)
-  going-byte k n =
-      let e : ended (part s at i) (drop i s) ≡ ended (part s at (i + 1)) (drop (i + 1) s) =
-      rw (drop-cons s i 0 k, ne-eqb (getD s i 0) 10 n, part-more s at i (g .begun) k, add-one i) in
-      record {
-        begun = omega (arith, g .begun);
-        within = omega arith;
-        room = g .room;
-        sized = g .sized;
-        beyond = g .beyond;
-        benches = g .benches ∙ ap (λ (ls : List (List ℕ)). takes (length out₀ - made) b ls .bench) e;
-        uses = g .uses ∙ ap (λ (ls : List (List ℕ)). at + takes (length out₀ - made) b ls .used) e;
-        texts = g .texts ∙ ap (λ (ls : List (List ℕ)). take made out ++ takes (length out₀ - made) b ls .text) e;
-      }
-
-  -- an LF ends the line that began at `at`
-  line-ends : i < length s → getD s i 0 ≡ 10 → ended (part s at i) (drop i s) ≡ part s at i ∷ ended (part s (i + 1) (i + 1)) (drop (i + 1) s)
-  line-ends k n = rw (drop-cons s i 0 k, eq-eqb (getD s i 0) 10 n, part-empty s (i + 1), add-one i)
-
-  -- with room for its answer, the line is taken
+module _ {b₀ : Bench} {ls : List (List ℕ)} {out₀ out : List ℕ} {b : Bench} {at made : ℕ} {left : List (List ℕ)}
+    (g : Going b₀ ls out₀ out b at made left) where
+  -- with room for its answer, a line is taken
   pub going-line :
-      (r : Stepped) (out′ : List ℕ) (made′ : ℕ) → i < length s → getD s i 0 ≡ 10 → made + 13 ≤ length out
-      → r ≡ stepOf b (frameOf (part s at i)) → length out′ ≡ length out → Put out out′ made made′ (render (r .reply))
-      → Going b₀ s out₀ out′ (r .bench) (i + 1) made′ (i + 1)
+      (l : List ℕ) (more : List (List ℕ)) (r : Stepped) (out′ : List ℕ) (at′ made′ : ℕ) → left ≡ l ∷ more
+      → at′ ≡ at + (length l + 1) → made + 13 ≤ length out → r ≡ stepOf b (frameOf l) → length out′ ≡ length out
+      → Put out out′ made made′ (render (r .reply)) → Going b₀ ls out₀ out′ (r .bench) at′ made′ more
   unfolding saysOf nextOf
-  going-line r out′ made′ k n h e z p =
+  going-line l more r out′ at′ made′ parts place h e z p =
       let a = p .fits h in
-      let x = render (stepOf b (frameOf (part s at i)) .reply) in
-      let o = ap (λ (r : Stepped). render (r .reply)) e in
-      let d : made′ ≡ made + length x = a .place ∙ ap (λ (y : List ℕ). made + length y) o in
-      let more = left (length out₀) s (stepOf b (frameOf (part s at i)) .bench) (i + 1) made′ (i + 1) in
-      let taken : left (length out₀) s b at made i ≡ before (part s at i) x more =
-      ap (takes (length out₀ - made) b) (line-ends k n)
+      let o : render (r .reply) ≡ saysOf b l = ap (λ (r : Stepped). render (r .reply)) e in
+      let d : made′ ≡ made + length (saysOf b l) = a .place ∙ ap (λ (y : List ℕ). made + length y) o in
+      let t : take made′ out′ ≡ take made out ++ saysOf b l = a .text ∙ ap (λ (y : List ℕ). take made out ++ y) o in
+      let next = takes (length out₀ - made′) (nextOf b l) more in
+      let took : takes (length out₀ - made) b left ≡ before l (saysOf b l) next =
+      ap (takes (length out₀ - made) b) parts
       ∙ rw (le-leb 13 (length out₀ - made) (omega (arith, g .sized)))
-      (ap (λ (m : ℕ). before (part s at i) x (takes m (stepOf b (frameOf (part s at i)) .bench) (ended (part s (i + 1) (i + 1)) (drop (i + 1) s)))) (omega arith)) in
+      (ap (λ (m : ℕ). before l (saysOf b l) (takes m (nextOf b l) more)) (omega arith)) in
+      let u : at + (length l + 1 + next .used) ≡ at′ + next .used = omega arith in
+      let x : take made out ++ (saysOf b l ++ next .text) ≡ take made′ out′ ++ next .text =
+      sym (append-assoc (take made out) (saysOf b l) (next .text)) ∙ ap (λ (y : List ℕ). y ++ next .text) (sym t) in
       record {
-        begun = omega arith;
-        within = omega arith;
-        room = omega (arith, z, d, says-short b (part s at i));
+        room = omega (arith, z, d, says-short b l);
         sized = z ∙ g .sized;
         beyond = a .rest ∙ rw (a .place) (drop-later out₀ out made (length (render (r .reply))) (g .beyond));
-        benches = g .benches ∙ ap (λ (t : Taken). t .bench) taken ∙ rw e;
-        uses =
-            g .uses ∙ ap (λ (t : Taken). at + t .used) taken
-            ∙ (let q = part-length s at i (g .begun) (g .within) in let y = g .begun in rw e (omega arith));
-        texts =
-            g .texts ∙ ap (λ (t : Taken). take made out ++ t .text) taken
-            ∙ sym (append-assoc (take made out) x (more .text))
-            ∙ ap₂ (λ (u : List ℕ) (c : Bench). u ++ left (length out₀) s c (i + 1) made′ (i + 1) .text)
-            (ap (λ (y : List ℕ). take made out ++ y) (sym o) ∙ sym (a .text)) (ap (λ (r : Stepped). r .bench) (sym e));
+        taken =
+            g .taken ∙ ap (behind at (take made out)) took
+            ∙ (λ i. record { bench = next .bench; used = u i; text = x i })
+            ∙ ap (λ (r : Stepped). behind at′ (take made′ out′) (takes (length out₀ - made′) (r .bench) more)) (sym e);
       }
 
-  -- nothing more can be taken
-  ends : left (length out₀) s b at made i ≡ record { bench = b; used = 0; text = [] } → Feeds b₀ s out₀ out (record { bench = b; used = at; made = made })
+  -- nothing more is taken: no line is left, or no room
+  ends : takes (length out₀ - made) b left ≡ record { bench = b; used = 0; text = [] } → Feeds b₀ ls out₀ out (record { bench = b; used = at; made = made })
   ends e =
-      let t = g .texts ∙ ap (λ (t : Taken). take made out ++ t .text) e ∙ append-nil (take made out) in
+      let q = g .taken ∙ ap (behind at (take made out)) e in
+      let t = ap (λ (t : Taken). t .text) q ∙ append-nil (take made out) in
       record {
-        bench = sym (g .benches ∙ ap (λ (t : Taken). t .bench) e);
-        used = sym (g .uses ∙ ap (λ (t : Taken). at + t .used) e ∙ add-zero at);
-        out =
-            record {
-              size = sym (ap length t ∙ length-take-le made out (g .room));
-              text = sym t;
-              rest = g .beyond;
-            };
+        bench = sym (ap (λ (t : Taken). t .bench) q);
+        used = sym (ap (λ (t : Taken). t .used) q ∙ add-zero at);
+        out = record { size = sym (ap length t ∙ length-take-le made out (g .room)); text = sym t; rest = g .beyond };
       }
 
-  -- since no line is left, or no room
-  pub going-end : i ≡ length s → Feeds b₀ s out₀ out (record { bench = b; used = at; made = made })
-  going-end e = ends (rw (e, drop-length))
+  pub going-end : left ≡ [] → Feeds b₀ ls out₀ out (record { bench = b; used = at; made = made })
+  going-end e = ends (ap (takes (length out₀ - made) b) e)
 
-  pub going-full : i < length s → getD s i 0 ≡ 10 → length out - made < 13 → Feeds b₀ s out₀ out (record { bench = b; used = at; made = made })
-  going-full k n h =
-      ends (ap (takes (length out₀ - made) b) (line-ends k n) ∙ rw (lt-leb 13 (length out₀ - made) (omega (arith, g .sized))))
+  pub going-full : length out - made < 13 → Feeds b₀ ls out₀ out (record { bench = b; used = at; made = made })
+  going-full h = ends (full left)
+    where
+      full : (ls : List (List ℕ)) → takes (length out₀ - made) b ls ≡ record { bench = b; used = 0; text = [] }
+      full [] = refl
+      full (l ∷ ls) = rw (lt-leb 13 (length out₀ - made) (omega (arith, g .sized)))
 
--- what a frame of each kind leaves and replies, put together from the chip that it names
-module _ (b : Bench) (l : List ℕ) {f : Frame} (e : f ≡ frameOf l) where
-  pub unknown-steps : f ≡ Unknown → record { bench = b; reply = Refused 2 } ≡ stepOf b (frameOf l)
-  unfolding stepOf
-  unknown-steps k = rw (← e, k)
+-- the lines of an input from a place on
+module _ (whole : Bool) (s : List ℕ) {b₀ : Bench} {out₀ out : List ℕ} {b : Bench} {at made : ℕ}
+    (g : Going b₀ (linesIn whole s) out₀ out b at made (linesIn whole (drop at s))) where
+  pub going-on :
+      (end : ℕ) (r : Stepped) (out′ : List ℕ) (made′ : ℕ) → Ends whole s at end → end ≤ length s → made + 13 ≤ length out
+      → r ≡ stepOf b (frameOf (take (end - at) (drop at s))) → length out′ ≡ length out
+      → Put out out′ made made′ (render (r .reply))
+      → Going b₀ (linesIn whole s) out₀ out′ (r .bench) (end + 1) made′ (linesIn whole (drop (end + 1) s))
+  going-on end r out′ made′ f k h e z p =
+      let size : length (take (end - at) (drop at s)) ≡ end - at =
+      length-take-le (end - at) (drop at s) (simp length-drop (omega arith)) in
+      going-line g (take (end - at) (drop at s)) _ r out′ (end + 1) made′ (f .found k) (omega (arith, f .begun)) h e z p
 
-  pub steps22 :
-      (c : Call22) (a : After22) → f ≡ To22 c → a ≡ on22 (b .via) c
-      → record { bench = record { via = a .via; riot = b .riot; crtc = b .crtc }; reply = a .reply } ≡ stepOf b (frameOf l)
-  unfolding stepOf
-  steps22 c a k h = rw (← e, k, h)
+  pub going-past : length s ≤ at → Feeds b₀ (linesIn whole s) out₀ out (record { bench = b; used = at; made = made })
+  going-past h = going-end g (ap (linesIn whole) (drop-of-length-le s h) ∙ none-in whole)
 
-  pub steps32 :
-      (c : Call32) (a : After32) → f ≡ To32 c → a ≡ on32 (b .riot) c
-      → record { bench = record { via = b .via; riot = a .riot; crtc = b .crtc }; reply = a .reply } ≡ stepOf b (frameOf l)
-  unfolding stepOf
-  steps32 c a k h = rw (← e, k, h)
+-- a bench that was taken apart, and put together again
+pub from-core : (b : Bench) (k : Core) {ls : List (List ℕ)} {x y : List ℕ} {r : Fed} → k ≡ coreOf b → Feeds (joined (b .riot .ram) k) ls x y r → Feeds b ls x y r
+from-core b k e f = rw e at f
 
-  pub steps45 :
-      (c : Call45) (a : After45) → f ≡ To45 c → a ≡ on45 (b .crtc) c
-      → record { bench = record { via = b .via; riot = b .riot; crtc = a .crtc }; reply = a .reply } ≡ stepOf b (frameOf l)
-  unfolding stepOf
-  steps45 c a k h = rw (← e, k, h)
+-- ---- a last line
+
+one-takes : (room : ℕ) (b : Bench) (s : List ℕ) → 13 ≤ room → takes room b (last-line s) .text ≡ saysAll b (last-line s)
+one-takes room b [] h = refl
+one-takes room b (x ∷ s) h = rw (le-leb 13 room h)
+
+none-takes : (room : ℕ) (b : Bench) (s : List ℕ) → room < 13 → takes room b (last-line s) .text ≡ []
+none-takes room b [] h = refl
+none-takes room b (x ∷ s) h = rw (lt-leb 13 room h)
+
+pub finishes : (b : Bench) (s out out′ : List ℕ) (r : Fed) → Feeds b (last-line s) out out′ r → Finishes b s out out′ (r .made)
+finishes b s out out′ r f =
+    record {
+      answered = λ h. rw (← one-takes (length out) b s h) (f .out);
+      full = λ h.
+          let e : r .made ≡ 0 = f .out .size ∙ ap length (none-takes (length out) b s h) in
+          (ap (λ (n : ℕ). drop n out′) (sym e) ∙ f .out .rest ∙ ap (λ (n : ℕ). drop n out) e, e);
+    }

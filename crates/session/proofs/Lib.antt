@@ -1,6 +1,6 @@
 pub mod Aheads
+pub mod Told
 pub mod Feeding
-pub mod Keeping
 pub mod Cuts
 pub mod Taking
 pub mod Piecing

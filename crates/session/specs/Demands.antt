@@ -4,20 +4,22 @@ use mathlib.Core.List.{List, [], _++_}
 use Prim.Native.Nat.{ℕ, _+_, _*_, _<_, _≤_}
 use lib.ListN.{length, take, drop}
 use Rattle.frames.specs.Frames.{frameOf}
-use Rattle.frames.specs.declared.Reply.the-variants.{Refused}
+use Rattle.replies.specs.declared.Reply.the-variants.{Refused}
 use Rattle.clocks.specs.Forecasts.{numberOf}
-use Rattle.via6522.specs.Answers as Answers22
-use Rattle.via6522.specs.Demands as Calls22
+use Rattle.clocks.specs.declared.Forecast.{Forecast}
+use Rattle.chips.specs.Chips.{Reached, Foretold}
+use Rattle.via6522.specs.Chip as Chip22
 use Rattle.via6522.specs.declared.Via.{Via}
-use Rattle.via6522.specs.declared.Outlook as Outlook22
-use Rattle.riot6532.specs.Answers as Answers32
+use Rattle.via6522.specs.declared.Answer as Answer22
+use Rattle.riot6532.specs.Chip as Chip32
 use Rattle.riot6532.specs.declared.Riot.{Riot}
-use Rattle.riot6532.specs.declared.Outlook as Outlook32
-use Rattle.riot6532.specs.Demands as Calls32
-use Rattle.crtc6545.specs.Demands as Calls45
+use Rattle.riot6532.specs.declared.Answer as Answer32
+use Rattle.crtc6545.specs.Chip as Chip45
 use Rattle.session.specs.Steps.{forecast22, forecast32, powerUp, stepOf}
-use Rattle.session.specs.Sessions.{ended, open-line, linesOf, nextAll, saysAll, session}
-use Rattle.session.specs.Pieces.{takes, Feeds, Finishes, Keeps, at-start, written-for, joined, Piece}
+use Rattle.lines.specs.Lines.{ended, open-line, linesOf, joined}
+use Rattle.lines.specs.Keeps.{Keeps}
+use Rattle.session.specs.Sessions.{nextAll, saysAll, session}
+use Rattle.session.specs.Pieces.{takes, Feeds, Finishes, at-start, written-for, Piece}
 use Rattle.session.specs.declared.Bench.{Bench}
 use Rattle.session.specs.declared.Fed.{Fed}
 
@@ -55,13 +57,15 @@ abbrev pub Feed-and-keep : Type 0
 Feed-and-keep =
     (b : Bench) (buf buf′ out out′ : List ℕ) (kept n k : ℕ) (fed : Fed)
     → kept ≤ n → n ≤ length buf → 3 * length buf + 13 ≤ length out
-    → Feeds b (take n buf) out out′ fed → Keeps buf buf′ (fed .used) n k → Piece b buf buf′ out′ kept n k fed
+    → Feeds b (ended [] (take n buf)) out out′ fed → Keeps buf buf′ (fed .used) n 33 k → Piece b buf buf′ out out′ kept n k fed
 
 -- every chip of the bench is one that calls from power-up reach, whatever lines came: what the demands say of such chips holds in sessions
 abbrev pub Chips-reached : Type 0
 Chips-reached =
     (ls : List (List ℕ))
-    → Calls22.Reached (nextAll powerUp ls .via) × Calls32.Reached (nextAll powerUp ls .riot) × Calls45.Reached (nextAll powerUp ls .crtc)
+    → Reached Chip22.chip (nextAll powerUp ls .via)
+    × Reached Chip32.chip (nextAll powerUp ls .riot)
+    × Reached Chip45.chip (nextAll powerUp ls .crtc)
 
 -- so refusal 1 is given to no line
 abbrev pub Never-1 : Type 0
@@ -74,15 +78,14 @@ Line-for-line = (s : List ℕ) → (length (ended [] (session s)) ≡ length (li
 -- a session's forecast is the number of the chip's, which is the least number of clocks, or never
 abbrev pub Forecast-told : Type 0
 Forecast-told =
-    ((v : Via) (r : Outlook22.Outlook) → Calls22.Reached v → Answers22.Foretold v r → forecast22 v ≡ numberOf (r .forecast))
-    × ((v : Riot) (r : Outlook32.Outlook) → Calls32.Reached v → Answers32.Foretold v r → forecast32 v ≡ numberOf (r .forecast))
+    ((v : Via) (f : Forecast) (r : Answer22.Answer) → Reached Chip22.chip v → Foretold Chip22.chip Chip22.clocked Chip22.lined v f r
+    → forecast22 v ≡ numberOf f)
+    × ((v : Riot) (f : Forecast) (r : Answer32.Answer) → Reached Chip32.chip v → Foretold Chip32.chip Chip32.clocked Chip32.lined v f r
+    → forecast32 v ≡ numberOf f)
 
 -- any two results that a promise about a buffer allows coincide, all of the buffer among them
 abbrev pub Feeds-one : Type 0
-Feeds-one = (b : Bench) (s out x y : List ℕ) (r t : Fed) → Feeds b s out x r → Feeds b s out y t → (x ≡ y) × (r ≡ t)
+Feeds-one = (b : Bench) (ls : List (List ℕ)) (out x y : List ℕ) (r t : Fed) → Feeds b ls out x r → Feeds b ls out y t → (x ≡ y) × (r ≡ t)
 
 abbrev pub Finishes-one : Type 0
 Finishes-one = (b : Bench) (s out x y : List ℕ) (m k : ℕ) → Finishes b s out x m → Finishes b s out y k → (x ≡ y) × (m ≡ k)
-
-abbrev pub Keeps-one : Type 0
-Keeps-one = (buf x y : List ℕ) (used n k j : ℕ) → Keeps buf x used n k → Keeps buf y used n j → (x ≡ y) × (k ≡ j)

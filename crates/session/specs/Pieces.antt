@@ -1,13 +1,14 @@
 -- A file that comes in pieces, through buffers of any size.
-use Prim.Native.Nat.{ℕ, _+_, _-_, _<_, _≤_, min}
+use Prim.Native.Nat.{ℕ, _+_, _-_, _<_, _≤_}
 use mathlib.Core.Path.{_≡_}
-use mathlib.Core.Logic.{_⊎_}
+use mathlib.Core.Bool.{Bool, true, false}
 use mathlib.Core.List.{List, [], _∷_, _++_}
 use lib.Dec.{leb}
 use lib.ListN.{length, take, drop}
 use Rattle.clocks.specs.Clocks.{if_then_else_}
 use Rattle.session.specs.Steps.{powerUp}
-use Rattle.session.specs.Sessions.{ended, open-line, last-line, nextOf, saysOf, nextAll, saysAll}
+use Rattle.lines.specs.Lines.{ended, open-line, last-line}
+use Rattle.session.specs.Sessions.{nextOf, saysOf, nextAll, saysAll}
 use Rattle.session.specs.declared.Bench.{Bench}
 use Rattle.session.specs.declared.Fed.{Fed}
 
@@ -35,28 +36,29 @@ pub record Written (before now : List ℕ) (made : ℕ) (x : List ℕ) : Type 0 
   pub text : take made now ≡ x
   pub rest : drop made now ≡ drop made before
 
--- what `feed` gives for a bench, an input and an output buffer
-pub record Feeds (b : Bench) (s before now : List ℕ) (r : Fed) : Type 0 where
-  pub bench : r .bench ≡ takes (length before) b (ended [] s) .bench
-  pub used : r .used ≡ takes (length before) b (ended [] s) .used
-  pub out : Written before now (r .made) (takes (length before) b (ended [] s) .text)
+-- what is made of some lines with an output buffer: as many as it has room for are taken, and their answers stand at its front
+pub record Feeds (b : Bench) (ls : List (List ℕ)) (before now : List ℕ) (r : Fed) : Type 0 where
+  pub bench : r .bench ≡ takes (length before) b ls .bench
+  pub used : r .used ≡ takes (length before) b ls .used
+  pub out : Written before now (r .made) (takes (length before) b ls .text)
 
 -- what `finish` writes for what has come of a last line: its answer where 13 bytes are free, and nothing for an empty one
 pub record Finishes (b : Bench) (s before now : List ℕ) (made : ℕ) : Type 0 where
   pub answered : 13 ≤ length before → Written before now made (saysAll b (last-line s))
   pub full : length before < 13 → (now ≡ before) × (made ≡ 0)
 
--- a buffer whose first m bytes are those that stood from `from` on, the rest untouched
-pub record Moved (before now : List ℕ) (from m : ℕ) : Type 0 where
-  pub front : take m now ≡ take m (drop from before)
-  pub rest : drop m now ≡ drop m before
+-- ---- the lines of an input
 
--- what `keep` leaves of a buffer whose bytes from `used` up to n are an open line: at most 33 of them, at its front
-pub record Keeps (before now : List ℕ) (used n kept : ℕ) : Type 0 where
-  pub moved :
-      used ≤ n → n ≤ length before
-      → (kept ≡ min 33 (n - used)) × (take kept now ≡ take 33 (drop used (take n before))) × (drop kept now ≡ drop kept before)
-  pub refused : (n < used) ⊎ (length before < n) → (now ≡ before) × (kept ≡ 0)
+-- those that an LF ends, or all of it as the one line that it is at the end of a file
+unfoldable pub linesIn : Bool → List ℕ → List (List ℕ)
+linesIn true s = last-line s
+linesIn false s = ended [] s
+
+-- the first of them, of what begins at a place, ends at r; there is none where r is beyond the input
+pub record Ends (whole : Bool) (s : List ℕ) (at r : ℕ) : Type 0 where
+  pub begun : at ≤ r
+  pub found : r ≤ length s → linesIn whole (drop at s) ≡ take (r - at) (drop at s) ∷ linesIn whole (drop (r + 1) s)
+  pub missing : length s < r → linesIn whole (drop at s) ≡ []
 
 -- ---- a file cut into pieces
 
@@ -81,15 +83,12 @@ abbrev pub written-for : Held → List (List ℕ) → List ℕ
 written-for h [] = saysAll (h .bench) (last-line (h .kept))
 written-for h (piece ∷ pieces) = wrote h piece ++ written-for (held h piece) pieces
 
-abbrev pub joined : List (List ℕ) → List ℕ
-joined [] = []
-joined (piece ∷ pieces) = piece ++ joined pieces
-
--- a buffer of n bytes, whose first `kept` are what is held, fed and then kept of: it did what its new bytes do as a piece
-pub record Piece (b : Bench) (buf buf′ out′ : List ℕ) (kept n k : ℕ) (fed : Fed) : Type 0 where
+-- a buffer of n bytes, whose first `kept` are what is held, fed and then kept of: it did what its new bytes do as a piece, and left
+-- the rest of both buffers
+pub record Piece (b : Bench) (buf buf′ out out′ : List ℕ) (kept n k : ℕ) (fed : Fed) : Type 0 where
   pub next :
       _≡_ {A = Held} (record { bench = fed .bench; kept = take k buf′ })
       (held (record { bench = b; kept = take kept buf }) (drop kept (take n buf)))
-  pub out : take (fed .made) out′ ≡ wrote (record { bench = b; kept = take kept buf }) (drop kept (take n buf))
-  pub small : k ≤ 33
-  pub made : fed .made ≤ length out′
+  pub within : k ≤ length buf′
+  pub beyond : drop k buf′ ≡ drop k buf
+  pub answers : Written out out′ (fed .made) (wrote (record { bench = b; kept = take kept buf }) (drop kept (take n buf)))

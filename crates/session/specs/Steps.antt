@@ -2,41 +2,41 @@
 use mathlib.Core.Bool.{Bool}
 use Prim.Native.Nat.{ℕ, _+_}
 use lib.Dec.{eqb}
-use Rattle.clocks.specs.Clocks.{if_then_else_, after}
+use Rattle.clocks.specs.Clocks.{if_then_else_}
 use Rattle.clocks.specs.Forecasts.{numberOf, firstFrom}
-use Rattle.frames.specs.declared.Call22.{Call22}
-use Rattle.frames.specs.declared.Call22.the-variants as Via
-use Rattle.frames.specs.declared.Call32.{Call32}
-use Rattle.frames.specs.declared.Call32.the-variants as Riot
-use Rattle.frames.specs.declared.Call45.{Call45}
-use Rattle.frames.specs.declared.Call45.the-variants as Crtc
+use Rattle.calls.specs.declared.Call22.{Call22}
+use Rattle.calls.specs.declared.Call22.the-variants as Via
+use Rattle.calls.specs.declared.Call32.{Call32}
+use Rattle.calls.specs.declared.Call32.the-variants as Riot
+use Rattle.calls.specs.declared.Call45.{Call45}
+use Rattle.calls.specs.declared.Call45.the-variants as Crtc
 use Rattle.frames.specs.declared.Frame.{Frame}
 use Rattle.frames.specs.declared.Frame.the-variants.{Unknown, To22, To32, To45}
-use Rattle.frames.specs.declared.Reply.{Reply}
-use Rattle.frames.specs.declared.Reply.the-variants.{Refused, Done, Data, Ahead}
-use Rattle.via6522.specs.Record as Via6522
-use Rattle.via6522.specs.Flags as Flags22
-use Rattle.via6522.specs.Clock as Clock22
-use Rattle.via6522.specs.Demands as Calls22
-use Rattle.riot6532.specs.Record as Riot6532
-use Rattle.riot6532.specs.Ports as Ports32
-use Rattle.riot6532.specs.Clock as Clock32
-use Rattle.riot6532.specs.Demands as Calls32
-use Rattle.crtc6545.specs.Record as Crtc6545
-use Rattle.crtc6545.specs.Answers as Answers45
-use Rattle.crtc6545.specs.Demands as Calls45
+use Rattle.replies.specs.declared.Reply.{Reply}
+use Rattle.replies.specs.declared.Reply.the-variants.{Refused, Done, Data, Ahead}
+use Rattle.chips.specs.Chips.{answer, next, line}
+use Rattle.via6522.specs.Chip as Chip22
 use Rattle.via6522.specs.declared.Via.{Via}
-use Rattle.via6522.specs.declared.Answer as Answer22
+use Rattle.riot6532.specs.Chip as Chip32
 use Rattle.riot6532.specs.declared.Riot.{Riot}
-use Rattle.riot6532.specs.declared.Answer as Answer32
+use Rattle.crtc6545.specs.Chip as Chip45
 use Rattle.crtc6545.specs.declared.Crtc.{Crtc}
 use Rattle.crtc6545.specs.declared.Answer as Answer45
-use Rattle.crtc6545.specs.declared.Reading.{Reading}
 use Rattle.session.specs.declared.Bench.{Bench}
-use Rattle.session.specs.declared.After22.{After22}
-use Rattle.session.specs.declared.After32.{After32}
-use Rattle.session.specs.declared.After45.{After45}
 use Rattle.session.specs.declared.Stepped.{Stepped}
+
+-- ---- what a reply tells
+
+-- what follows the line byte of an accepted call: nothing, the byte that was read, or a forecast's number
+pub data Kind : Type 0 where
+  nothing : Kind
+  a-byte : Kind
+  a-forecast : Kind
+
+abbrev pub told : Kind → ℕ → ℕ → ℕ → Reply
+told nothing l d n = Done l
+told a-byte l d n = Data l d
+told a-forecast l d n = Ahead l n
 
 -- a refused call is answered by its number alone
 abbrev pub replied : ℕ → Reply → Reply
@@ -52,92 +52,78 @@ lines45 a =
 
 -- ---- the 6522
 
--- its forecast, by looking ahead: no record that its types allow has the line come later than after 65,537 clocks
+abbrev pub kind22 : Call22 → Kind
+kind22 Via.Reset = nothing
+kind22 (Via.Write r x) = nothing
+kind22 (Via.Read r) = a-byte
+kind22 (Via.Pins pa pb control) = nothing
+kind22 (Via.Run n) = nothing
+kind22 Via.Forecast = a-forecast
+
+-- its forecast, by looking ahead: no record that its types allow has the line asserted first after more than 65,537 clocks
 unfoldable pub forecast22 : Via → ℕ
-forecast22 v = numberOf (firstFrom 65538 0 (λ k. Flags22.irqOf (after k Clock22.clockOf v)))
+forecast22 v = numberOf (firstFrom 65538 0 (λ k. line Chip22.chip Chip22.clocked Chip22.lined k v))
 
--- an answer with nothing, a byte that was read, or a forecast after the line byte
-abbrev pub done22 : Answer22.Answer → After22
-done22 a = record { via = a .via; reply = replied (a .refusal) (Done (lineOf (a .irq))) }
-
-abbrev pub data22 : Answer22.Answer → After22
-data22 a = record { via = a .via; reply = replied (a .refusal) (Data (lineOf (a .irq)) (a .«data»)) }
-
-abbrev pub ahead22 : ℕ → Answer22.Answer → After22
-ahead22 n a = record { via = a .via; reply = replied (a .refusal) (Ahead (lineOf (a .irq)) n) }
-
-unfoldable pub on22 : Via → Call22 → After22
-on22 v Via.Reset = done22 (Calls22.answerOf Calls22.reset v)
-on22 v (Via.Write r x) = done22 (Calls22.answerOf (Calls22.write r x) v)
-on22 v (Via.Read r) = data22 (Calls22.answerOf (Calls22.read r) v)
-on22 v (Via.Pins pa pb control) = done22 (Calls22.answerOf (Calls22.pins pa pb control) v)
-on22 v (Via.Run n) = done22 (Calls22.answerOf (Calls22.run n) v)
-on22 v Via.Forecast = ahead22 (forecast22 v) (Calls22.answerOf Calls22.forecast v)
+abbrev pub reply22 : Via → Call22 → Reply
+reply22 v c =
+    replied (answer Chip22.chip c v .refusal)
+    (told (kind22 c) (lineOf (answer Chip22.chip c v .irq)) (answer Chip22.chip c v .«data») (forecast22 v))
 
 -- ---- the 6532
 
--- no record that its types allow has the line come later than after 262,144 clocks
+abbrev pub kind32 : Call32 → Kind
+kind32 Riot.Reset = nothing
+kind32 (Riot.Write a x) = nothing
+kind32 (Riot.Read a) = a-byte
+kind32 (Riot.Pins pa pb) = nothing
+kind32 (Riot.Run n) = nothing
+kind32 Riot.Forecast = a-forecast
+
+-- no record that its types allow has the line asserted first after more than 262,144 clocks
 unfoldable pub forecast32 : Riot → ℕ
-forecast32 v = numberOf (firstFrom 262145 0 (λ k. Ports32.irqOf (after k Clock32.clockOf v .io)))
+forecast32 v = numberOf (firstFrom 262145 0 (λ k. line Chip32.chip Chip32.clocked Chip32.lined k v))
 
-abbrev pub done32 : Answer32.Answer → After32
-done32 a = record { riot = a .riot; reply = replied (a .refusal) (Done (lineOf (a .irq))) }
-
-abbrev pub data32 : Answer32.Answer → After32
-data32 a = record { riot = a .riot; reply = replied (a .refusal) (Data (lineOf (a .irq)) (a .«data»)) }
-
-abbrev pub ahead32 : ℕ → Answer32.Answer → After32
-ahead32 n a = record { riot = a .riot; reply = replied (a .refusal) (Ahead (lineOf (a .irq)) n) }
-
-unfoldable pub on32 : Riot → Call32 → After32
-on32 v Riot.Reset = done32 (Calls32.answerOf Calls32.reset v)
-on32 v (Riot.Write a x) = done32 (Calls32.answerOf (Calls32.write a x) v)
-on32 v (Riot.Read a) = data32 (Calls32.answerOf (Calls32.read a) v)
-on32 v (Riot.Pins pa pb) = done32 (Calls32.answerOf (Calls32.pins pa pb) v)
-on32 v (Riot.Run n) = done32 (Calls32.answerOf (Calls32.run n) v)
-on32 v Riot.Forecast = ahead32 (forecast32 v) (Calls32.answerOf Calls32.forecast v)
+abbrev pub reply32 : Riot → Call32 → Reply
+reply32 v c =
+    replied (answer Chip32.chip c v .refusal)
+    (told (kind32 c) (lineOf (answer Chip32.chip c v .irq)) (answer Chip32.chip c v .«data») (forecast32 v))
 
 -- ---- the 6545
 
-abbrev pub done45 : Answer45.Answer → After45
-done45 a = record { crtc = a .crtc; reply = replied (a .refusal) (Done (lines45 a)) }
-
 -- a byte that nothing drives is not shown
-abbrev pub shown : Bool → ℕ → ℕ → Reply
-shown undriven lines byte = if undriven then Done lines else Data lines byte
+abbrev pub kind45 : Call45 → Crtc → Kind
+kind45 Crtc.Reset v = nothing
+kind45 (Crtc.Write a x) v = nothing
+kind45 (Crtc.Read a) v = if Chip45.readingOf a v .undriven then nothing else a-byte
+kind45 (Crtc.Pins pen) v = nothing
+kind45 (Crtc.Run n) v = nothing
 
-abbrev pub data45 : Reading → After45
-data45 r =
-    record {
-      crtc = r .answer .crtc;
-      reply = replied (r .answer .refusal) (shown (r .undriven) (lines45 (r .answer)) (r .answer .«data»));
-    }
-
-unfoldable pub on45 : Crtc → Call45 → After45
-on45 v Crtc.Reset = done45 (Calls45.answerOf Calls45.reset v)
-on45 v (Crtc.Write a x) = done45 (Calls45.answerOf (Calls45.write a x) v)
-on45 v (Crtc.Read a) = data45 (Answers45.readingOf a v)
-on45 v (Crtc.Pins pen) = done45 (Calls45.answerOf (Calls45.pins pen) v)
-on45 v (Crtc.Run n) = done45 (Calls45.answerOf (Calls45.run n) v)
+abbrev pub reply45 : Crtc → Call45 → Reply
+reply45 v c =
+    replied (answer Chip45.chip c v .refusal)
+    (told (kind45 c v) (lines45 (answer Chip45.chip c v)) (answer Chip45.chip c v .«data») 0)
 
 -- ---- the bench
 
 -- all chips start at power-up
 unfoldable pub powerUp : Bench
-powerUp = record { via = Via6522.powerUp; riot = Riot6532.powerUp; crtc = Crtc6545.powerUp }
+powerUp = record { via = Chip22.chip .powerUp; riot = Chip32.chip .powerUp; crtc = Chip45.chip .powerUp }
 
 -- what is no frame is refused with 2; a frame moves the chip that it names, and no other
 unfoldable pub stepOf : Bench → Frame → Stepped
 stepOf b Unknown = record { bench = b; reply = Refused 2 }
 stepOf b (To22 c) =
-    record { bench = record { via = on22 (b .via) c .via; riot = b .riot; crtc = b .crtc }; reply = on22 (b .via) c .reply }
+    record {
+      bench = record { via = next Chip22.chip c (b .via); riot = b .riot; crtc = b .crtc };
+      reply = reply22 (b .via) c;
+    }
 stepOf b (To32 c) =
     record {
-      bench = record { via = b .via; riot = on32 (b .riot) c .riot; crtc = b .crtc };
-      reply = on32 (b .riot) c .reply;
+      bench = record { via = b .via; riot = next Chip32.chip c (b .riot); crtc = b .crtc };
+      reply = reply32 (b .riot) c;
     }
 stepOf b (To45 c) =
     record {
-      bench = record { via = b .via; riot = b .riot; crtc = on45 (b .crtc) c .crtc };
-      reply = on45 (b .crtc) c .reply;
+      bench = record { via = b .via; riot = b .riot; crtc = next Chip45.chip c (b .crtc) };
+      reply = reply45 (b .crtc) c;
     }

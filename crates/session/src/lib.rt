@@ -1,17 +1,21 @@
 // A session on the bench of three chips: lines in, replies out, whole files in pieces of any size.
 ghost use mathlib.Core.Path.{_≡_};
-ghost use Prim.Native.Nat.{_+_, _≤_};
+ghost use mathlib.Core.List.{[]};
+ghost use Prim.Native.Nat.{_<_};
 ghost use lib.ListN.{length};
+ghost use Rattle.lines.specs.Lines.{ended};
 ghost use Rattle.frames.specs.Frames.{frameOf};
 ghost use Rattle.session.specs.Steps.{powerUp, stepOf};
-ghost use Rattle.session.specs.Pieces.{Feeds, Finishes, Moved, Keeps};
+ghost use Rattle.session.specs.Core.{joined, coreOf, stepped};
+ghost use Rattle.session.specs.Pieces.{linesIn, Ends, Feeds, Finishes};
 use crtc6545::Crtc;
 use frames::Frame;
-use frames::Reply;
+use replies::Reply;
+use riot6532::Io;
 use riot6532::Riot;
 use via6522::Via;
 
-mod chips;
+mod calling;
 
 pub struct Bench {
     pub via: Via,
@@ -19,19 +23,32 @@ pub struct Bench {
     pub crtc: Crtc,
 }
 
-// What a frame leaves of one chip, and its reply.
+// The bench without the 6532's RAM, which is lent beside it.
+struct Core {
+    via: Via,
+    io: Io,
+    crtc: Crtc,
+}
+
+// What a call leaves of one chip, and its reply.
 struct After22 {
     via: Via,
     reply: Reply,
 }
 
 struct After32 {
-    riot: Riot,
+    io: Io,
     reply: Reply,
 }
 
 struct After45 {
     crtc: Crtc,
+    reply: Reply,
+}
+
+// What a line leaves of the core, and its reply.
+struct Answered {
+    core: Core,
     reply: Reply,
 }
 
@@ -48,6 +65,64 @@ pub struct Fed {
     pub made: usize,
 }
 
+impl Core {
+    // What a frame does: only the chip that it names is touched.
+    fn step(mut self, ram: &mut [u8; 128], frame: Frame) -> Answered
+        ensures { λ r. ⌜ stepped (now (ram .exit)) r ≡ stepOf (joined (now (ram .entry)) self) frame ⌝ }
+    {
+        match frame {
+            Frame::Unknown => Answered {
+                core: self,
+                reply: Reply::Refused(2),
+            },
+            Frame::To22(call) => {
+                let after = calling::on22(self.via, call);
+                let via = after.via;
+                let reply = after.reply;
+                self.via = via;
+                Answered { core: self, reply }
+            }
+            Frame::To32(call) => {
+                let after = calling::on32(self.io, ram, call);
+                let io = after.io;
+                let reply = after.reply;
+                self.io = io;
+                Answered { core: self, reply }
+            }
+            Frame::To45(call) => {
+                let after = calling::on45(self.crtc, call);
+                let crtc = after.crtc;
+                let reply = after.reply;
+                self.crtc = crtc;
+                Answered { core: self, reply }
+            }
+        }
+    }
+
+    fn answered(self, ram: &mut [u8; 128], line: &[u8]) -> Answered
+        ensures { λ r. ⌜ stepped (now (ram .exit)) r ≡ stepOf (joined (now (ram .entry)) self) (frameOf (now (line .entry))) ⌝ }
+    {
+        self.step(ram, frames::decode(line))
+    }
+
+    fn fed(self, ram: [u8; 128], used: usize, made: usize) -> Fed
+        ensures { λ r. ⌜ r ≡ record { bench = joined ram self; used = used; made = made } ⌝ }
+    {
+        let via = self.via;
+        let io = self.io;
+        let crtc = self.crtc;
+        Fed {
+            bench: Bench {
+                via,
+                riot: Riot { ram, io },
+                crtc,
+            },
+            used,
+            made,
+        }
+    }
+}
+
 impl Bench {
     pub fn power_up() -> Bench
         ensures { λ r. ⌜ r ≡ powerUp ⌝ }
@@ -59,141 +134,83 @@ impl Bench {
         }
     }
 
-    // What a frame does: only the chip that it names is touched.
-    fn step(mut self, frame: Frame) -> Stepped
-        ensures { λ r. ⌜ r ≡ stepOf self frame ⌝ }
+    fn core(self) -> Core
+        ensures { λ r. ⌜ r ≡ coreOf self ⌝ }
     {
-        match frame {
-            Frame::Unknown => Stepped {
-                bench: self,
-                reply: Reply::Refused(2),
-            },
-            Frame::To22(call) => {
-                let after = chips::on22(self.via, call);
-                let via = after.via;
-                let reply = after.reply;
-                self.via = via;
-                Stepped { bench: self, reply }
-            }
-            Frame::To32(call) => {
-                let after = chips::on32(self.riot, call);
-                let riot = after.riot;
-                let reply = after.reply;
-                self.riot = riot;
-                Stepped { bench: self, reply }
-            }
-            Frame::To45(call) => {
-                let after = chips::on45(self.crtc, call);
-                let crtc = after.crtc;
-                let reply = after.reply;
-                self.crtc = crtc;
-                Stepped { bench: self, reply }
-            }
-        }
+        let riot = self.riot;
+        let via = self.via;
+        let io = riot.io;
+        let crtc = self.crtc;
+        Core { via, io, crtc }
     }
 
     // One line without its LF, of any length and content.
     pub fn line(self, line: &[u8]) -> Stepped
         ensures { λ r. ⌜ r ≡ stepOf self (frameOf (now (line .entry))) ⌝ }
     {
-        self.step(frames::decode(line))
+        let mut ram = self.riot.ram;
+        let core = self.core();
+        let after = core.answered(&mut ram, line);
+        let left = after.core;
+        let reply = after.reply;
+        let fed = left.fed(ram, 0, 0);
+        let bench = fed.bench;
+        Stepped { bench, reply }
     }
 
-    fn fed(self, used: usize, made: usize) -> Fed
-        ensures { λ r. ⌜ r ≡ record { bench = self; used = used; made = made } ⌝ }
+    // As many lines as there is room for the answers of, 13 bytes each: those that an LF ends, or all of the input as one. Both come
+    // to a chip through this one loop, so that all the work on a line becomes part of it.
+    fn taken(self, input: &[u8], whole: bool, out: &mut [u8]) -> Fed
+        ensures { λ r. ⌜ Feeds self (linesIn whole (now (input .entry))) (now (out .entry)) (now (out .exit)) r ⌝ }
     {
-        Fed {
-            bench: self,
-            used,
-            made,
-        }
-    }
-
-    // As many whole lines as there is room for the answers of, 13 bytes each. A line copies only the chip that it names,
-    // which is why this goes by cases where `step` could be called.
-    pub fn feed(self, input: &[u8], out: &mut [u8]) -> Fed
-        ensures { λ r. ⌜ Feeds self (now (input .entry)) (now (out .entry)) (now (out .exit)) r ⌝ }
-    {
-        let mut now = self;
+        let mut ram = self.riot.ram;
+        let mut core = self.core();
         let mut at: usize = 0;
         let mut made: usize = 0;
-        let mut i: usize = 0;
-        while i < input.len() {
-            if input[i] == 10 {
-                if out.len() - made < 13 {
-                    return now.fed(at, made);
-                }
-                let frame = frames::decode(&input[at..i]);
-                match frame {
-                    Frame::Unknown => made = frames::put(out, made, Reply::Refused(2)),
-                    Frame::To22(call) => {
-                        let after = chips::on22(now.via, call);
-                        let via = after.via;
-                        now.via = via;
-                        let reply = after.reply;
-                        made = frames::put(out, made, reply);
-                    }
-                    Frame::To32(call) => {
-                        let after = chips::on32(now.riot, call);
-                        let riot = after.riot;
-                        now.riot = riot;
-                        let reply = after.reply;
-                        made = frames::put(out, made, reply);
-                    }
-                    Frame::To45(call) => {
-                        let after = chips::on45(now.crtc, call);
-                        let crtc = after.crtc;
-                        now.crtc = crtc;
-                        let reply = after.reply;
-                        made = frames::put(out, made, reply);
-                    }
-                }
-                at = i + 1;
+        while at < input.len() {
+            let end = line_end(input, at, whole);
+            if input.len() < end {
+                return core.fed(ram, at, made);
             }
-            i += 1;
+            if out.len() - made < 13 {
+                return core.fed(ram, at, made);
+            }
+            let after = core.answered(&mut ram, &input[at..end]);
+            core = after.core;
+            let reply = after.reply;
+            made = replies::put(out, made, reply);
+            at = end + 1;
         }
-        now.fed(at, made)
+        core.fed(ram, at, made)
+    }
+
+    // The whole lines of a piece, as many as there is room for.
+    pub fn feed(self, input: &[u8], out: &mut [u8]) -> Fed
+        ensures { λ r. ⌜ Feeds self (ended [] (now (input .entry))) (now (out .entry)) (now (out .exit)) r ⌝ }
+    {
+        self.taken(input, false, out)
     }
 
     // The answer to a last line that no LF ends; none for an empty one, and none without 13 bytes for it.
     pub fn finish(self, line: &[u8], out: &mut [u8]) -> usize
         ensures { λ r. ⌜ Finishes self (now (line .entry)) (now (out .entry)) (now (out .exit)) r ⌝ }
     {
-        if line.len() == 0 {
-            return 0;
-        }
-        let r = self.line(line);
-        let reply = r.reply;
-        frames::put(out, 0, reply)
+        let fed = self.taken(line, true, out);
+        fed.made
     }
 }
 
-// m bytes of a buffer, from `from` on, are moved to its front.
-fn moved(buf: &mut [u8], from: usize, m: usize)
-    requires { ⌜ from + m ≤ length (now buf) ⌝ }
-    ensures { λ _. ⌜ Moved (now (buf .entry)) (now (buf .exit)) from m ⌝ }
+// Where the line ends that begins at `at`; beyond the input where none ends there.
+fn line_end(input: &[u8], at: usize, whole: bool) -> usize
+    requires { ⌜ at < length (now input) ⌝ }
+    ensures { λ r. ⌜ Ends whole (now (input .entry)) at r ⌝ }
 {
-    let mut j: usize = 0;
-    while j < m {
-        buf[j] = buf[from + j];
-        j += 1;
+    if whole {
+        return input.len();
     }
-}
-
-// Of the bytes from `used` up to n, which are an open line, at most 33 are kept, at the front of the buffer.
-pub fn keep(buf: &mut [u8], used: usize, n: usize) -> usize
-    ensures { λ r. ⌜ Keeps (now (buf .entry)) (now (buf .exit)) used n r ⌝ }
-{
-    if buf.len() < n {
-        return 0;
+    let end = lines::end_from(input, at);
+    if end == input.len() {
+        return end + 1;
     }
-    if n < used {
-        return 0;
-    }
-    if n - used > 33 {
-        moved(buf, used, 33);
-        return 33;
-    }
-    moved(buf, used, n - used);
-    n - used
+    end
 }

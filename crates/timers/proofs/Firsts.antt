@@ -1,10 +1,10 @@
 -- T1 is a counter that passes zero, in both modes and whatever its mark: n of its clocks, and when its flag stands.
 use mathlib.Core.Path.{_≡_, refl, sym, ap, _∙_}
-use mathlib.Core.Bool.{Bool, true, false, _||_}
+use mathlib.Core.Bool.{Bool, true, false, _||_, false≢true}
 use Prim.Native.Nat.{ℕ, suc, _+_, _-_, _/_, _%_, _<_, _≤_}
 use native.Mathlib.Decide.{ℕ-discrete}
 use native.Mathlib.Omega.{arith}
-use lib.Dec.{eqb, eqb·suc-zero}
+use lib.Dec.{eqb, eqb·suc-zero, lit<}
 use borrow.Author.Tests.{eq-eqb, ne-eqb}
 use Rattle.clocks.specs.Clocks.{if_then_else_, after}
 use Rattle.clocks.specs.Forecasts.{comes}
@@ -12,7 +12,7 @@ use Rattle.clocks.specs.declared.Forecast.{Forecast}
 use Rattle.clocks.specs.declared.Forecast.the-variants.{Never, In}
 use Rattle.clocks.proofs.Tests.{picked}
 use Rattle.clocks.proofs.Turns.{Turns, after-short, after-past, flag-after}
-use Rattle.clocks.proofs.Forecasts.{stood-comes}
+use Rattle.clocks.proofs.Forecasts.{stood-comes, AtMost, most-gated}
 use Rattle.timers.specs.First.{at, passed, clocked}
 use Rattle.timers.specs.Closed.{topOf, lowOf, turned, fallen}
 use Rattle.timers.specs.declared.T1.{T1}
@@ -128,3 +128,24 @@ unfolding clocked
 keeps-free t =
     picked (λ (u : T1). u .free ≡ t .free) (t .mark) refl
     (picked (λ (u : T1). u .free ≡ t .free) (eqb (t .counter) 0) refl refl)
+
+-- a reload is to come only at the top
+pub marked-top : (t : T1) → clocked t .mark ≡ true → clocked t .counter ≡ 65535
+unfolding clocked
+marked-top t =
+    picked (λ (u : T1). u .mark ≡ true → u .counter ≡ 65535) (t .mark) (λ e. absurd (false≢true e))
+    (picked (λ (u : T1). u .mark ≡ true → u .counter ≡ 65535) (eqb (t .counter) 0) (λ e. refl) (λ e. absurd (false≢true e)))
+
+-- a clock keeps 16 bits, and the flag comes after 65,537 clocks at the latest
+module _ (t : T1) (l : t .latch < 65536) (h : t .counter < 65536) where
+  pub clock-range : (clocked t .latch < 65536) × (clocked t .counter < 65536)
+  unfolding clocked
+  clock-range =
+      picked (λ (u : T1). (u .latch < 65536) × (u .counter < 65536)) (t .mark) (l, l)
+      (picked (λ (u : T1). (u .latch < 65536) × (u .counter < 65536)) (eqb (t .counter) 0) (l, lit< tt) (l, omega arith))
+
+  pub due-most : AtMost 65537 (dueOf t)
+  due-most =
+      picked (AtMost 65537) (t .flag) (omega arith)
+      (most-gated 65537 (t .free || t .armed) (In (topOf t + 1))
+      (picked (λ (k : ℕ). k + 1 ≤ 65537) (t .mark) (omega arith) (omega arith)))

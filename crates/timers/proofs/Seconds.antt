@@ -3,7 +3,7 @@ use mathlib.Core.Path.{_≡_, refl, ap, _∙_}
 use mathlib.Core.Bool.{Bool, true, false, not, _||_, _&&_, and-true, and-false}
 use Prim.Native.Nat.{ℕ, zero, suc, _+_, _-_, _%_, _<_, _≤_}
 use native.Mathlib.Omega.{arith}
-use lib.Dec.{eqb·suc-zero}
+use lib.Dec.{eqb, eqb·suc-zero, lit<}
 use Rattle.clocks.specs.Clocks.{if_then_else_, after}
 use Rattle.clocks.specs.Forecasts.{comes}
 use Rattle.clocks.specs.declared.Forecast.{Forecast}
@@ -11,8 +11,8 @@ use Rattle.clocks.specs.declared.Forecast.the-variants.{Never, In}
 use Rattle.clocks.proofs.Turns.{Turns, after-short, after-past, flag-after}
 use Rattle.clocks.proofs.Clocks.{after-keeps}
 use Rattle.clocks.proofs.Tests.{on-false, picked}
-use Rattle.clocks.proofs.Forecasts.{stood-comes}
-use Rattle.timers.specs.Second.{counted, clocked}
+use Rattle.clocks.proofs.Forecasts.{stood-comes, AtMost, most-gated}
+use Rattle.timers.specs.Second.{counted, clocked, pulsed}
 use Rattle.timers.specs.declared.T2.{T2}
 
 -- the timer at k, armed as it was, and at k after it wrapped
@@ -95,3 +95,26 @@ flag-due t k = go (t .pulse) refl ∙ stood-comes (t .flag) (if t .armed && not 
 pub keeps-mode : (t : T2) → clocked t .pulse ≡ t .pulse
 unfolding clocked counted
 keeps-mode t = picked (λ (u : T2). u .pulse ≡ t .pulse) (t .pulse) refl refl
+
+-- a count keeps 16 bits, so do a clock and a pulse, and the flag comes after 65,536 clocks at the latest
+module _ (t : T2) (h : t .counter < 65536) where
+  counted-range : counted t .counter < 65536
+  unfolding counted
+  counted-range = picked (λ (x : ℕ). x < 65536) (eqb (t .counter) 0) (lit< tt) (omega arith)
+
+  pub clock-range : clocked t .counter < 65536
+  unfolding clocked
+  clock-range = picked (λ (u : T2). u .counter < 65536) (t .pulse) h counted-range
+
+  pub pulsed-range : (fall : Bool) → pulsed fall t .counter < 65536
+  unfolding pulsed
+  pulsed-range fall = picked (λ (u : T2). u .counter < 65536) (t .pulse && fall) counted-range h
+
+  pub due-most : (n : ℕ) → 65536 ≤ n → AtMost n (dueOf t)
+  due-most n l =
+      picked (AtMost n) (t .flag) (omega arith) (most-gated n (t .armed && not (t .pulse)) (In (t .counter + 1)) (omega arith))
+
+-- and it keeps the low latch
+pub keeps-low : (t : T2) → clocked t .low ≡ t .low
+unfolding clocked counted
+keeps-low t = picked (λ (u : T2). u .low ≡ t .low) (t .pulse) refl refl

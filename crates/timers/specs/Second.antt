@@ -1,5 +1,5 @@
 -- T2, the second timer: one count and one clock of it.
-use mathlib.Core.Bool.{not, _||_, _&&_}
+use mathlib.Core.Bool.{Bool, not, _||_, _&&_}
 use lib.Dec.{eqb}
 use Rattle.clocks.specs.Clocks.{if_then_else_, lower}
 use Rattle.timers.specs.declared.T2.{T2}
@@ -18,3 +18,7 @@ counted t =
 -- a clock counts unless pulses do
 unfoldable pub clocked : T2 → T2
 clocked t = if t .pulse then t else counted t
+
+-- a fall of PB6 counts where pulses do
+unfoldable pub pulsed : Bool → T2 → T2
+pulsed fall t = if t .pulse && fall then counted t else t

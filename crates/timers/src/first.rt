@@ -9,9 +9,6 @@ use crate::T1;
 use clocks::Forecast;
 
 impl T1 {
-    // The largest number of clocks to a passing: a reload to come, from a full latch.
-    pub const LARGEST_FORECAST: u32 = 65537;
-
     // The counter stands at `counter`, and no reload is to come.
     fn at(mut self, counter: u16) -> T1
         ensures { λ r. ⌜ r ≡ atOf counter self ⌝ }

@@ -3,7 +3,7 @@ ghost use mathlib.Core.Path.{_≡_};
 ghost use Prim.Native.Nat.{ℕ};
 ghost use Rattle.clocks.specs.Clocks.{after};
 ghost use Rattle.clocks.specs.Forecasts.{comes};
-ghost use Rattle.timers.specs.Second.{counted as countedOf, clocked as clockedOf};
+ghost use Rattle.timers.specs.Second.{counted as countedOf, clocked as clockedOf, pulsed as pulsedOf};
 use crate::T2;
 use clocks::Forecast;
 
@@ -25,6 +25,17 @@ impl T2 {
         ensures { λ r. ⌜ r ≡ clockedOf self ⌝ }
     {
         if self.pulse { self } else { self.counted() }
+    }
+
+    // A fall of PB6 counts where pulses do.
+    pub fn pulsed(self, fall: bool) -> T2
+        ensures { λ r. ⌜ r ≡ pulsedOf fall self ⌝ }
+    {
+        if self.pulse & fall {
+            self.counted()
+        } else {
+            self
+        }
     }
 
     // n clocks, in a number of steps that does not grow with n.

@@ -5,14 +5,15 @@ use Prim.Native.Nat.{ℕ, _<_}
 use lib.Dec.{eqb}
 use borrow.Author.Tests.{eqb-true, eq-eqb, ltb-true, lt-ltb}
 use Rattle.clocks.proofs.Tests.{both}
-use Rattle.via6522.specs.Record.{allowedAcr, allowedPcr, wellFormed}
+use Rattle.flags.specs.Flags.{allowedPcr}
+use Rattle.via6522.specs.Record.{allowedAcr, wellFormed}
 use Rattle.via6522.specs.declared.Via.{Via}
 
 pub record Formed (v : Via) : Type 0 where
   pub flags : v .ifr < 128
   pub enables : v .ier < 128
-  pub acr : allowedAcr (v .acr) ≡ true
-  pub pcr : allowedPcr (v .pcr) ≡ true
+  pub modes : allowedAcr (v .acr) ≡ true
+  pub codes : allowedPcr (v .pcr) ≡ true
   pub top : v .t1 .mark ≡ true → v .t1 .counter ≡ 65535
   pub levels : v .control < 16
 
@@ -34,8 +35,8 @@ formed v w =
     record {
       flags = ltb-true (v .ifr) 128 (a .0);
       enables = ltb-true (v .ier) 128 (a .1);
-      acr = b .1;
-      pcr = c .1;
+      modes = b .1;
+      codes = c .1;
       top = at-top (v .t1 .mark) (v .t1 .counter) (d .1);
       levels = ltb-true (v .control) 16 (e .1);
     }
@@ -45,8 +46,8 @@ well v h =
     rw (
       lt-ltb (v .ifr) 128 (h .flags),
       lt-ltb (v .ier) 128 (h .enables),
-      h .acr,
-      h .pcr,
+      h .modes,
+      h .codes,
       top-test (v .t1 .mark) (v .t1 .counter) (h .top),
       lt-ltb (v .control) 16 (h .levels),
     )

@@ -1,5 +1,5 @@
 -- The timer pair is a part of the record: what is put back is what is taken out. So running the pair runs the chip.
-use mathlib.Core.Path.{_≡_, refl, sym, ap, _∙_}
+use mathlib.Core.Path.{_≡_, sym, ap, _∙_}
 use mathlib.Core.Bool.{Bool}
 use Prim.Native.Nat.{ℕ}
 use native.Mathlib.Decide.{ℕ-discrete}
@@ -9,8 +9,6 @@ use Rattle.clocks.specs.Clocks.{if_then_else_, after}
 use Rattle.clocks.specs.Bits.{bit, withBit}
 use Rattle.clocks.proofs.Clocks.{Part, part-after}
 use Rattle.clocks.proofs.Bits.{bit-with, with-same, all-bits}
-use Rattle.timers.specs.First as First
-use Rattle.timers.specs.Second as Second
 use Rattle.timers.specs.Pair as Pair
 use Rattle.timers.specs.declared.Timers.{Timers}
 use Rattle.timers.proofs.Firsts.{keeps-free}

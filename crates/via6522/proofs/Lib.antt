@@ -1,5 +1,6 @@
 pub mod Lens
 pub mod Lines
 pub mod Formed
-pub mod Kept
+pub mod Keeps
+pub mod Lawful
 pub mod Demands

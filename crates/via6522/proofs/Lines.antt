@@ -1,4 +1,4 @@
--- When the interrupt line stands: by the flag of a timer, or by one that no clock moves.
+-- When the interrupt line is asserted: by the flag of a timer, or by one that no clock moves.
 use mathlib.Core.Path.{_≡_, refl, sym, ap, ap₂, _∙_}
 use mathlib.Core.Bool.{Bool, true, false, _&&_, _||_, or-true}
 use Prim.Native.Nat.{ℕ}
@@ -18,7 +18,7 @@ use Rattle.timers.specs.declared.Timers.{Timers}
 use Rattle.timers.proofs.Pairs.{each}
 use Rattle.via6522.specs.Flags.{irqOf}
 use Rattle.via6522.specs.Clock.{timersOf, withTimers, clockOf}
-use Rattle.via6522.specs.Closed.{stands, soonest}
+use Rattle.via6522.specs.Closed.{steady, soonest}
 use Rattle.via6522.specs.declared.Via.{Via}
 use Rattle.via6522.proofs.Lens.{flags, timers-after}
 
@@ -64,7 +64,7 @@ line-split a b x y =
 three : (v : Via) (f g : Forecast) (k : ℕ) →
     comes (soonest v f g) k
     ≡ (comes f k && bit 6 (v .ier) || (comes g k && bit 5 (v .ier) || shares 8 (flags false false (v .ifr)) (v .ier)))
-unfolding soonest stands
+unfolding soonest steady
 three v f g k =
     let others = shares 8 (flags false false (v .ifr)) (v .ier) in
     sooner-comes (if bit 6 (v .ier) then f else Never) (soonerOf (if bit 5 (v .ier) then g else Never) (if others then In 0 else Never)) k
@@ -72,7 +72,7 @@ three v f g k =
     (sooner-comes (if bit 5 (v .ier) then g else Never) (if others then In 0 else Never) k
     ∙ ap₂ _||_ (gate-comes (bit 5 (v .ier)) g k) (gate-comes others (In 0) k ∙ ap (λ (b : Bool). b && others) (leb·zero k)))
 
--- where f and g say when the timers' flags stand, the soonest says when the line does
+-- where f and g say when the flags of the timers are set, the soonest says when the line is asserted
 pub line-after :
     (v : Via) (f g : Forecast)
     → ((k : ℕ) → after k First.clocked (timersOf v .t1) .flag ≡ comes f k)

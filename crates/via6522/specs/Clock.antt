@@ -4,7 +4,7 @@ use Rattle.timers.specs.Pair as Pair
 use Rattle.timers.specs.declared.Timers.{Timers}
 use Rattle.via6522.specs.declared.Via.{Via}
 
--- the pair is gathered from where the chip keeps it: IFR has the flags in bits 6 and 5, and ACR the modes in the same
+-- the pair is gathered from where the chip has it: the flags are bits 6 and 5 of IFR, the modes the same bits of ACR
 unfoldable pub timersOf : Via → Timers
 timersOf v =
     record {
@@ -33,7 +33,9 @@ unfoldable pub withTimers : Timers → Via → Via
 withTimers p v =
     record {
       a = v .a;
+      «kept_a» = v .«kept_a»;
       b = v .b;
+      «kept_b» = v .«kept_b»;
       t1 =
           record {
             counter = p .t1 .counter;

@@ -1,9 +1,9 @@
 pub mod Record
 pub mod Flags
 pub mod Ports
-pub mod Pins
-pub mod Access
 pub mod Clock
-pub mod Answers
+pub mod Access
+pub mod Pins
+pub mod Chip
 pub mod Closed
 pub mod Demands

@@ -1,83 +1,60 @@
--- New levels outside: edges on the control lines, kept port lines, and pulses on PB6. Every edge is from the levels that stood before.
-use mathlib.Core.Bool.{Bool, false, not, _&&_}
+-- New levels outside: pulses on PB6, edges on the control lines, and kept port lines. Every edge is from the levels before the call.
+use mathlib.Core.Bool.{false}
 use Prim.Native.Nat.{ℕ}
 use lib.Dec.{ltb}
 use Rattle.clocks.specs.Clocks.{if_then_else_}
-use Rattle.clocks.specs.Bits.{bit, withSet}
+use Rattle.clocks.specs.Bits.{bit, withBit}
+use Rattle.ports.specs.Ports.{edge, linesFor}
+use Rattle.flags.specs.Flags.{raised, keepsA, keepsB}
 use Rattle.timers.specs.Second as Second
-use Rattle.via6522.specs.Record.{codeA, codeB}
-use Rattle.via6522.specs.Ports.{linesA, linesB}
-use Rattle.via6522.specs.Clock.{timersOf, withTimers}
+use Rattle.timers.specs.declared.T2.{T2}
+use Rattle.via6522.specs.Ports.{linesB}
+use Rattle.via6522.specs.Clock.{timersOf}
 use Rattle.via6522.specs.declared.Via.{Via}
 
--- an edge of CA1 or CB1, whose PCR bit picks the way
-abbrev pub edge : Bool → Bool → Bool → Bool
-edge rising old new = if rising then not old && new else old && not new
+-- more control levels than there are lines are refused
+unfoldable pub pinsAsks : ℕ → ℕ
+pinsAsks control = if ltb 15 control then 5 else 0
 
--- an edge of CA2 or CB2: codes 0 and 1 look for a fall, 2 and 3 for a rise, the output codes for nothing
-abbrev pub edge2 : ℕ → Bool → Bool → Bool
-edge2 code old new = if ltb code 2 then old && not new else if ltb code 4 then not old && new else false
+-- T2 after a fall of PB6 outside, whatever the port does with that line
+unfoldable pub pulsed : ℕ → Via → T2
+pulsed pb v = Second.pulsed (edge false (bit 6 (v .b .outside)) (bit 6 pb)) (timersOf v .t2)
 
-abbrev pub edgeCA1 : ℕ → Via → Bool
-edgeCA1 control v = edge (bit 0 (v .pcr)) (bit 0 (v .control)) (bit 0 control)
+-- the record with T2 as a pulse left it
+abbrev pub withPulse : T2 → Via → Via
+withPulse t v =
+    record {
+      a = v .a;
+      «kept_a» = v .«kept_a»;
+      b = v .b;
+      «kept_b» = v .«kept_b»;
+      t1 = v .t1;
+      t2 = record { counter = t .counter; low = v .t2 .low; armed = t .armed };
+      sr = v .sr;
+      acr = v .acr;
+      pcr = v .pcr;
+      ifr = withBit 5 (t .flag) (v .ifr);
+      ier = v .ier;
+      control = v .control;
+    }
 
-abbrev pub edgeCA2 : ℕ → Via → Bool
-edgeCA2 control v = edge2 (codeA (v .pcr)) (bit 1 (v .control)) (bit 1 control)
-
-abbrev pub edgeCB1 : ℕ → Via → Bool
-edgeCB1 control v = edge (bit 4 (v .pcr)) (bit 2 (v .control)) (bit 2 control)
-
-abbrev pub edgeCB2 : ℕ → Via → Bool
-edgeCB2 control v = edge2 (codeB (v .pcr)) (bit 3 (v .control)) (bit 3 control)
-
--- a flag that an edge raises
-abbrev pub raised : ℕ → Bool → ℕ → ℕ
-raised m edge x = if edge then withSet m x else x
-
--- IFR after the edges: CA2 is its bit 0, CA1 bit 1, CB2 bit 3, CB1 bit 4
-unfoldable pub flagged : ℕ → Via → ℕ
-flagged control v =
-    raised 1 (edgeCA2 control v)
-    (raised 2 (edgeCA1 control v) (raised 8 (edgeCB2 control v) (raised 16 (edgeCB1 control v) (v .ifr))))
-
--- a fall of PB6 is a pulse where pulses count, whatever the port does with that line
-abbrev pub pulse : ℕ → Via → Bool
-pulse pb v = bit 5 (v .acr) && (bit 6 (v .b .outside) && not (bit 6 pb))
-
--- one count of T2
-abbrev pub counted2 : Via → Via
-counted2 v = withTimers (record { t1 = timersOf v .t1; t2 = Second.counted (timersOf v .t2) }) v
-
-unfoldable pub pulsed : ℕ → Via → Via
-pulsed pb v = if pulse pb v then counted2 v else v
-
--- a port's lines, as the new levels make them, are kept when the flag of CA1 or CB1 comes up
+-- a port's lines, as the new levels make them, are kept when the flag of CA1 or CB1 goes from 0 to 1
 unfoldable pub settled : ℕ → ℕ → ℕ → Via → Via
 settled pa pb control v =
     record {
-      a =
-          record {
-            output = v .a .output;
-            ddr = v .a .ddr;
-            outside = pa;
-            kept = if edgeCA1 control v && not (bit 1 (v .ifr)) then linesA pa v else v .a .kept;
-          };
-      b =
-          record {
-            output = v .b .output;
-            ddr = v .b .ddr;
-            outside = pb;
-            kept = if edgeCB1 control v && not (bit 4 (v .ifr)) then linesB pb v else v .b .kept;
-          };
+      a = record { output = v .a .output; outside = pa; ddr = v .a .ddr };
+      «kept_a» = if keepsA (v .pcr) (v .control) control (v .ifr) then linesFor pa (v .a) else v .«kept_a»;
+      b = record { output = v .b .output; outside = pb; ddr = v .b .ddr };
+      «kept_b» = if keepsB (v .pcr) (v .control) control (v .ifr) then linesB pb v else v .«kept_b»;
       t1 = v .t1;
       t2 = v .t2;
       sr = v .sr;
       acr = v .acr;
       pcr = v .pcr;
-      ifr = flagged control v;
+      ifr = raised (v .pcr) (v .control) control (v .ifr);
       ier = v .ier;
       control = control;
     }
 
 unfoldable pub pinsOf : ℕ → ℕ → ℕ → Via → Via
-pinsOf pa pb control v = settled pa pb control (pulsed pb v)
+pinsOf pa pb control v = settled pa pb control (withPulse (pulsed pb v) v)

@@ -1,24 +1,22 @@
--- The lines of both ports, and the byte that a read of one gives.
+-- The lines of port B, and the byte that a read of a port gives. The lines of port A are `linesOf` of the port.
 use mathlib.Core.Bool.{_&&_}
 use Prim.Native.Nat.{ℕ}
 use Rattle.clocks.specs.Clocks.{if_then_else_}
-use Rattle.clocks.specs.Bits.{bit, merge, withBit}
+use Rattle.clocks.specs.Bits.{bit, withBit}
+use Rattle.ports.specs.Ports.{linesFor, linesOf}
 use Rattle.via6522.specs.declared.Via.{Via}
 
--- a line of A shows what the port puts out where it drives it, and what is outside where it does not
-unfoldable pub linesA : ℕ → Via → ℕ
-linesA outside v = merge (v .a .ddr) (v .a .output) outside
-
--- so does one of B, but T1 has PB7 to itself under ACR bit 7
+-- with the given levels outside, the lines of B are those of any port, but PB7 is T1's level under ACR bit 7
 unfoldable pub linesB : ℕ → Via → ℕ
 linesB outside v =
-    if bit 7 (v .acr) then withBit 7 (v .t1 .level) (merge (v .b .ddr) (v .b .output) outside) else
-    merge (v .b .ddr) (v .b .output) outside
+    if bit 7 (v .acr) then withBit 7 (v .t1 .level) (linesFor outside (v .b)) else
+    linesFor outside (v .b)
 
--- a read of A shows the lines as CA1's flag kept them while the flag stands, under ACR bit 0
+-- a read of A shows the lines that CA1's flag kept, while that flag and ACR bit 0 are set
 unfoldable pub shownA : Via → ℕ
-shownA v = if bit 0 (v .acr) && bit 1 (v .ifr) then v .a .kept else linesA (v .a .outside) v
+shownA v = if bit 0 (v .acr) && bit 1 (v .ifr) then v .«kept_a» else linesOf (v .a)
 
--- a read of B does so under ACR bit 1 for CB1's flag, but only in place of what is outside: bits that the port or T1 drives show as ever
+-- a read of B shows those that CB1's flag kept, under ACR bit 1, but only in place of the levels outside: bits that the port or T1
+-- drives show their lines
 unfoldable pub shownB : Via → ℕ
-shownB v = linesB (if bit 1 (v .acr) && bit 4 (v .ifr) then v .b .kept else v .b .outside) v
+shownB v = linesB (if bit 1 (v .acr) && bit 4 (v .ifr) then v .«kept_b» else v .b .outside) v

@@ -1,7 +1,29 @@
-// Reads: the byte of each register, and the flags that reading it takes away.
+// The sixteen registers: which accesses are refused, the byte of each, and what a write to each stores.
 ghost use mathlib.Core.Path.{_≡_};
-ghost use Rattle.via6522.specs.Access.{dataOf, readClears, readOf};
+ghost use Rattle.via6522.specs.Record.{allowedAcr};
+ghost use Rattle.via6522.specs.Access.{dataOf, stored as storedOf, readAsks, writeAsks};
 use crate::Via;
+use clocks::choose8;
+
+pub(crate) fn allowed_acr(acr: u8) -> bool
+    ensures { λ r. ⌜ r ≡ allowedAcr acr ⌝ }
+{
+    acr / 4 % 8 == 0
+}
+
+pub(crate) fn read_asks(register: u8) -> u8
+    ensures { λ r. ⌜ r ≡ readAsks register ⌝ }
+{
+    choose8(15 < register, 3, 0)
+}
+
+pub(crate) fn write_asks(register: u8, value: u8) -> u8
+    ensures { λ r. ⌜ r ≡ writeAsks register value ⌝ }
+{
+    let form = (register == 11) & !allowed_acr(value)
+        | (register == 12) & !flags::allowed_pcr(value);
+    choose8(15 < register, 3, choose8(form, 4, 0))
+}
 
 impl Via {
     pub(crate) fn data(self, register: u8) -> u8
@@ -21,29 +43,45 @@ impl Via {
             10 => self.sr,
             11 => self.acr,
             12 => self.pcr,
-            13 => clocks::with_mask(128, self.irq(), self.ifr),
+            13 => flags::shown(self.ifr, self.ier),
             14 => clocks::with_mask(128, true, self.ier),
             _ => self.shown_a(),
         }
     }
 
-    // The flags that a read takes away.
-    fn read_clears(self, register: u8) -> u8
-        ensures { λ r. ⌜ r ≡ readClears register self ⌝ }
+    pub(crate) fn stored(mut self, register: u8, value: u8) -> Via
+        ensures { λ r. ⌜ r ≡ storedOf register value self ⌝ }
     {
+        let low = self.t1.latch / 256 * 256 + value as u16;
+        let high = value as u16 * 256 + self.t1.latch % 256;
         match register {
-            0 => self.flags_b(),
-            1 => self.flags_a(),
-            4 => 64,
-            8 => 32,
-            10 => 4,
-            _ => 0,
+            0 => self.b.output = value,
+            1 => self.a.output = value,
+            2 => self.b.ddr = value,
+            3 => self.a.ddr = value,
+            4 => self.t1.latch = low,
+            5 => {
+                self.t1.latch = high;
+                self.t1.counter = high;
+                self.t1.mark = false;
+                self.t1.armed = true;
+                self.t1.level = false;
+            }
+            6 => self.t1.latch = low,
+            7 => self.t1.latch = high,
+            8 => self.t2.low = value,
+            9 => {
+                let counter = value as u16 * 256 + self.t2.low as u16;
+                self.t2.counter = counter;
+                self.t2.armed = true;
+            }
+            10 => self.sr = value,
+            11 => self.acr = value,
+            12 => self.pcr = value,
+            14 => self.ier = flags::enabled(value, self.ier),
+            15 => self.a.output = value,
+            _ => (),
         }
-    }
-
-    pub(crate) fn after_read(self, register: u8) -> Via
-        ensures { λ r. ⌜ r ≡ readOf register self ⌝ }
-    {
-        self.cleared(self.read_clears(register))
+        self
     }
 }

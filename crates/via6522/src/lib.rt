@@ -1,31 +1,21 @@
 // The 6522: two ports with control lines, two timers, a shift register that only holds its byte, and the flags of them all.
 // A call takes the record and hands it back inside its answer.
 ghost use mathlib.Core.Path.{_≡_};
-ghost use Rattle.clocks.specs.Clocks.{after};
-ghost use Rattle.via6522.specs.Record.{powerUp, resetOf};
-ghost use Rattle.via6522.specs.Access.{dataOf, readOf, writeOf};
-ghost use Rattle.via6522.specs.Pins.{pinsOf};
-ghost use Rattle.via6522.specs.Clock.{clockOf};
-ghost use Rattle.via6522.specs.Answers.{accepted as acceptedOf, refused as refusedOf, judged, refusal as refusalOf, readRefusal, writeRefusal, pinsRefusal, Foretold};
+ghost use Rattle.clocks.specs.Clocks.{if_then_else_};
+ghost use Rattle.calls.specs.declared.Call22.{Call22};
+ghost use Rattle.chips.specs.Chips.{answer, Foretold};
+ghost use Rattle.via6522.specs.Record.{powerUp, wellFormed};
+ghost use Rattle.via6522.specs.Chip.{accepted as acceptedOf, refused as refusedOf, chip, clocked, lined, largestForecast};
 use clocks::Forecast;
 use clocks::choose8;
+use ports::Port;
 
 mod access;
 mod clock;
-mod flags;
 mod pins;
-mod ports;
-mod writes;
+mod shown;
 
-// A port: the output bits, the direction bits (1 drives the line), the levels outside, and the lines that its flag kept.
-pub struct Port {
-    pub output: u8,
-    pub ddr: u8,
-    pub outside: u8,
-    pub kept: u8,
-}
-
-// T1 but for its flag and mode, which stand in IFR and ACR.
+// T1 but for its flag and its mode, which IFR and ACR have.
 pub struct Count1 {
     pub counter: u16,
     pub latch: u16,
@@ -41,10 +31,12 @@ pub struct Count2 {
     pub armed: bool,
 }
 
-// `control`: the outside levels of CA1, CA2, CB1 and CB2 in bits 0 to 3.
+// `kept_a`, `kept_b`: the lines that the flags of CA1 and CB1 kept. `control`: the outside levels of CA1, CA2, CB1 and CB2 in bits 0 to 3.
 pub struct Via {
     pub a: Port,
+    pub kept_a: u8,
     pub b: Port,
+    pub kept_b: u8,
     pub t1: Count1,
     pub t2: Count2,
     pub sr: u8,
@@ -75,18 +67,21 @@ impl Via {
     // The largest forecast: a reload to come, from a full latch.
     pub const LARGEST_FORECAST: u32 = 65537;
 
+    // The constant is the number that Forecast-bound proves.
+    fn largest() -> u32
+        ensures { λ r. ⌜ r ≡ largestForecast ⌝ }
+    {
+        Via::LARGEST_FORECAST
+    }
+
     pub fn power_up() -> Via
         ensures { λ r. ⌜ r ≡ powerUp ⌝ }
     {
-        let port = Port {
-            output: 0,
-            ddr: 0,
-            outside: 255,
-            kept: 0,
-        };
         Via {
-            a: port,
-            b: port,
+            a: Port::power_up(),
+            kept_a: 0,
+            b: Port::power_up(),
+            kept_b: 0,
             t1: Count1 {
                 counter: 65535,
                 latch: 65535,
@@ -111,11 +106,12 @@ impl Via {
     fn accepted(self, data: u8) -> Answer
         ensures { λ r. ⌜ r ≡ acceptedOf «data» self ⌝ }
     {
+        let a = self.a;
         Answer {
             refusal: 0,
             data,
-            irq: self.irq(),
-            pa: self.lines_a(self.a.outside),
+            irq: clocks::shares(self.ifr, self.ier),
+            pa: a.lines(),
             pb: self.lines_b(self.b.outside),
             via: self,
         }
@@ -134,108 +130,124 @@ impl Via {
         }
     }
 
-    // The answer of a call that meets the refusal `number`, and without it would give `data` and leave `next`.
-    fn judged(self, number: u8, data: u8, next: Via) -> Answer
-        ensures { λ r. ⌜ r ≡ judged number self «data» next ⌝ }
+    fn well_formed(self) -> bool
+        ensures { λ r. ⌜ r ≡ wellFormed self ⌝ }
     {
-        if number == 0 {
-            next.accepted(data)
-        } else {
-            self.refused(number)
+        (self.ifr < 128)
+            & (self.ier < 128)
+            & access::allowed_acr(self.acr)
+            & flags::allowed_pcr(self.pcr)
+            & (!self.t1.mark | (self.t1.counter == 65535))
+            & (self.control < 16)
+    }
+
+    // The refusal that applies first, where the operands ask for `asked`.
+    fn refusal(self, asked: u8) -> u8
+        ensures { λ r. ⌜ r ≡ (if wellFormed self then asked else 1) ⌝ }
+    {
+        choose8(self.well_formed(), asked, 1)
+    }
+
+    pub fn reset(mut self) -> Answer
+        ensures { λ r. ⌜ r ≡ answer chip Call22.Reset self ⌝ }
+    {
+        let number = self.refusal(0);
+        if number != 0 {
+            return self.refused(number);
         }
+        self.a.output = 0;
+        self.a.ddr = 0;
+        self.b.output = 0;
+        self.b.ddr = 0;
+        self.t1.armed = false;
+        self.t1.mark = false;
+        self.t1.level = true;
+        self.t2.armed = false;
+        self.acr = 0;
+        self.pcr = 0;
+        self.ifr = 0;
+        self.ier = 0;
+        self.accepted(0)
     }
 
-    fn refusal(self) -> u8
-        ensures { λ r. ⌜ r ≡ refusalOf self ⌝ }
+    pub fn read(mut self, register: u8) -> Answer
+        ensures { λ r. ⌜ r ≡ answer chip (Call22.Read register) self ⌝ }
     {
-        choose8(self.well_formed(), 0, 1)
+        let number = self.refusal(access::read_asks(register));
+        if number != 0 {
+            return self.refused(number);
+        }
+        let data = self.data(register);
+        let clears = flags::read_clears(register, self.pcr);
+        self.ifr = clocks::with_mask(clears, false, self.ifr);
+        self.accepted(data)
     }
 
-    fn read_refusal(self, register: u8) -> u8
-        ensures { λ r. ⌜ r ≡ readRefusal register self ⌝ }
+    pub fn write(mut self, register: u8, value: u8) -> Answer
+        ensures { λ r. ⌜ r ≡ answer chip (Call22.Write register value) self ⌝ }
     {
-        choose8(self.well_formed(), choose8(15 < register, 3, 0), 1)
+        let number = self.refusal(access::write_asks(register, value));
+        if number != 0 {
+            return self.refused(number);
+        }
+        let clears = flags::write_clears(register, value, self.pcr);
+        self.ifr = clocks::with_mask(clears, false, self.ifr);
+        self.stored(register, value).accepted(0)
     }
 
-    fn write_refusal(self, register: u8, value: u8) -> u8
-        ensures { λ r. ⌜ r ≡ writeRefusal register value self ⌝ }
+    pub fn pins(mut self, pa: u8, pb: u8, control: u8) -> Answer
+        ensures { λ r. ⌜ r ≡ answer chip (Call22.Pins pa pb control) self ⌝ }
     {
-        let form = flags::refused_form(register, value);
-        choose8(
-            self.well_formed(),
-            choose8(15 < register, 3, choose8(form, 4, 0)),
-            1,
-        )
-    }
-
-    fn pins_refusal(self, control: u8) -> u8
-        ensures { λ r. ⌜ r ≡ pinsRefusal control self ⌝ }
-    {
-        choose8(self.well_formed(), choose8(15 < control, 5, 0), 1)
-    }
-
-    pub fn reset(self) -> Answer
-        ensures { λ r. ⌜ r ≡ judged (refusalOf self) self 0 (resetOf self) ⌝ }
-    {
-        self.judged(self.refusal(), 0, self.after_reset())
-    }
-
-    pub fn read(self, register: u8) -> Answer
-        ensures { λ r. ⌜ r ≡ judged (readRefusal register self) self (dataOf register self) (readOf register self) ⌝ }
-    {
-        self.judged(
-            self.read_refusal(register),
-            self.data(register),
-            self.after_read(register),
-        )
-    }
-
-    pub fn write(self, register: u8, value: u8) -> Answer
-        ensures { λ r. ⌜ r ≡ judged (writeRefusal register value self) self 0 (writeOf register value self) ⌝ }
-    {
-        self.judged(
-            self.write_refusal(register, value),
-            0,
-            self.after_write(register, value),
-        )
-    }
-
-    pub fn pins(self, pa: u8, pb: u8, control: u8) -> Answer
-        ensures { λ r. ⌜ r ≡ judged (pinsRefusal control self) self 0 (pinsOf pa pb control self) ⌝ }
-    {
-        self.judged(
-            self.pins_refusal(control),
-            0,
-            self.after_pins(pa, pb, control),
-        )
+        let number = self.refusal(pins::pins_asks(control));
+        if number != 0 {
+            return self.refused(number);
+        }
+        let t2 = self.pulsed(pb);
+        self.t2.counter = t2.counter;
+        self.t2.armed = t2.armed;
+        self.ifr = clocks::with_mask(32, t2.flag, self.ifr);
+        self.settled(pa, pb, control).accepted(0)
     }
 
     pub fn clock(self) -> Answer
-        ensures { λ r. ⌜ r ≡ judged (refusalOf self) self 0 (clockOf self) ⌝ }
+        ensures { λ r. ⌜ r ≡ answer chip (Call22.Run 1) self ⌝ }
     {
-        self.judged(self.refusal(), 0, self.clocked())
+        self.run(1)
     }
 
     // n clocks, in a number of steps that does not grow with n.
-    pub fn run(self, n: u32) -> Answer
-        ensures { λ r. ⌜ r ≡ judged (refusalOf self) self 0 (after n clockOf self) ⌝ }
+    pub fn run(mut self, n: u32) -> Answer
+        ensures { λ r. ⌜ r ≡ answer chip (Call22.Run n) self ⌝ }
     {
-        self.judged(self.refusal(), 0, self.ran(n))
+        let number = self.refusal(0);
+        if number != 0 {
+            return self.refused(number);
+        }
+        let p = self.timers().run(n);
+        self.t1.counter = p.t1.counter;
+        self.t1.latch = p.t1.latch;
+        self.t1.armed = p.t1.armed;
+        self.t1.mark = p.t1.mark;
+        self.t1.level = p.t1.level;
+        self.t2.counter = p.t2.counter;
+        self.t2.low = p.t2.low;
+        self.t2.armed = p.t2.armed;
+        self.ifr = clocks::with_mask(64, p.t1.flag, clocks::with_mask(32, p.t2.flag, self.ifr));
+        self.accepted(0)
     }
 
     pub fn forecast(self) -> Outlook
-        ensures { λ r. ⌜ Foretold self r ⌝ }
+        ensures { λ r. ⌜ Foretold chip clocked lined self (r .forecast) (r .answer) ⌝ }
     {
-        let answer = self.judged(self.refusal(), 0, self);
         if self.well_formed() {
             Outlook {
                 forecast: self.foreseen(),
-                answer,
+                answer: self.accepted(0),
             }
         } else {
             Outlook {
                 forecast: Forecast::In(0),
-                answer,
+                answer: self.refused(1),
             }
         }
     }

@@ -1,15 +1,12 @@
 use borrow.Author.Needs.{needs}
-use Rattle.session.proofs.Keeping.{finishes-none, finishes}
+use Rattle.session.specs.Pieces.{linesIn}
+use Rattle.session.proofs.Feeding.{finishes}
 use Rattle.session.proofs.Bench.finish.Statement.{statement}
 use Rattle.session.proofs.Bench.finish.Tie as tie
 
 returns : tie.Need-returns
-returns c = finishes-none _ _ _ (c .if1 .taken)
-
-returns-2 : tie.Need-returns-2
-returns-2 c =
-    let r = c .before .before .before .before .line in
-    finishes _ _ _ _ _ (r .result) (c .before .before .before .before .before .if1 .left) (r .ensures) (c .before .before .put .ensures)
+unfolding linesIn
+returns c = finishes _ _ _ _ (c .before .before .taken .result) (c .before .before .taken .ensures)
 
 pub finish-spec : {M : Type 1} → statement M
-finish-spec = tie.close (tie.spec returns (λ c κs. search needs) (λ c κs. search needs) (λ c. search needs) returns-2)
+finish-spec = tie.close (tie.spec (λ c κs. search needs) (λ c. search needs) returns)

@@ -59,16 +59,16 @@ unfolding dataOf
 returns-13 c = rw (c .match .keys13)
 
 returns-14 : tie.Need-returns-14
-unfolding dataOf withBit
-returns-14 c = c .with-mask .ensures ∙ rw (c .before .before .match .keys14, c .before .irq .ensures)
+unfolding dataOf
+returns-14 c = c .shown .ensures ∙ rw (c .before .match .keys14)
 
 returns-15 : tie.Need-returns-15
 unfolding dataOf withBit
-returns-15 c = c .with-mask2 .ensures ∙ rw (c .before .match .keys15)
+returns-15 c = c .with-mask .ensures ∙ rw (c .before .match .keys15)
 
 returns-16 : tie.Need-returns-16
 unfolding dataOf
 returns-16 c = let r = c .before .match .rest in c .shown-a2 .ensures ∙ rw (ne-eqb _ 0 (r .0 .0 .0 .0 .0 .0 .0 .0 .0 .0 .0 .0 .0 .0 .1), ne-eqb _ 1 (r .0 .0 .0 .0 .0 .0 .0 .0 .0 .0 .0 .0 .0 .1), ne-eqb _ 2 (r .0 .0 .0 .0 .0 .0 .0 .0 .0 .0 .0 .0 .1), ne-eqb _ 3 (r .0 .0 .0 .0 .0 .0 .0 .0 .0 .0 .0 .1), ne-eqb _ 4 (r .0 .0 .0 .0 .0 .0 .0 .0 .0 .0 .1), ne-eqb _ 5 (r .0 .0 .0 .0 .0 .0 .0 .0 .0 .1), ne-eqb _ 6 (r .0 .0 .0 .0 .0 .0 .0 .0 .1), ne-eqb _ 7 (r .0 .0 .0 .0 .0 .0 .0 .1), ne-eqb _ 8 (r .0 .0 .0 .0 .0 .0 .1), ne-eqb _ 9 (r .0 .0 .0 .0 .0 .1), ne-eqb _ 10 (r .0 .0 .0 .0 .1), ne-eqb _ 11 (r .0 .0 .0 .1), ne-eqb _ 12 (r .0 .0 .1), ne-eqb _ 13 (r .0 .1), ne-eqb _ 14 (r .1))
 
 pub data-spec : {M : Type 1} → statement M
-data-spec = tie.close (tie.spec (λ c κs. search needs) (λ c κs. search needs) (λ c. search needs) (λ c. search needs) (λ c. search needs) (λ c. search needs) (λ c. search needs) (λ c. search needs) (λ c κs. search needs) (λ c κs. search needs) (λ c κs. search needs) (λ c κs. search needs) returns returns-2 returns-3 returns-4 returns-5 returns-6 returns-7 returns-8 returns-9 returns-10 returns-11 returns-12 returns-13 returns-14 returns-15 returns-16)
+data-spec = tie.close (tie.spec (λ c κs. search needs) (λ c κs. search needs) (λ c. search needs) (λ c. search needs) (λ c. search needs) (λ c. search needs) (λ c. search needs) (λ c. search needs) (λ c κs. search needs) (λ c κs. search needs) (λ c κs. search needs) returns returns-2 returns-3 returns-4 returns-5 returns-6 returns-7 returns-8 returns-9 returns-10 returns-11 returns-12 returns-13 returns-14 returns-15 returns-16)

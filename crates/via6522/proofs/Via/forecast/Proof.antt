@@ -1,25 +1,30 @@
-use Prim.Native.Nat.{ℕ}
 use borrow.Author.Needs.{needs}
+use mathlib.Core.Path.{_∙_, sym, refl}
 use mathlib.Core.Bool.{true≢false}
-use mathlib.Core.Path.{_∙_, sym, refl, ap}
-use Rattle.via6522.specs.Answers.{judged, refusal}
+use native.Mathlib.Omega.{arith}
+use Rattle.clocks.proofs.Tests.{on-true, on-false}
+use Rattle.chips.proofs.Chips.{accepts, refuses}
+use Rattle.calls.specs.declared.Call22.the-variants.{Forecast}
+use Rattle.via6522.specs.Chip.{chip}
 use Rattle.via6522.proofs.Via.forecast.Statement.{statement}
 use Rattle.via6522.proofs.Via.forecast.Tie as tie
 
 returns : tie.Need-returns
-returns c = let v = c .before .before .before .before .before .args .self in
-    let well = sym (c .before .before .well-formed .ensures) ∙ c .before .if1 .taken in
+returns c =
+    let v = c .before .before .before .before .args .self in
+    let well = sym (c .before .before .before .well-formed .ensures) ∙ c .before .before .if1 .taken in
     record {
-      answer = c .before .before .before .judged .ensures ∙ ap (λ (n : ℕ). judged n v 0 v) (c .before .before .before .before .refusal .ensures);
-      told = λ w k. c .foreseen .ensures k;
+      answered = c .accepted .ensures ∙ sym (accepts chip Forecast v 0 (sym (on-true _ 0 1 well)) refl);
+      told = λ w k. c .before .foreseen .ensures k;
       refused = λ w. absurd (true≢false (sym well ∙ w));
     }
 
 returns-2 : tie.Need-returns-2
-returns-2 c = let v = c .before .before .before .before .args .self in
-    let ill = sym (c .before .well-formed .ensures) ∙ c .if1 .left in
+returns-2 c =
+    let v = c .before .before .before .args .self in
+    let ill = sym (c .before .before .well-formed .ensures) ∙ c .before .if1 .left in
     record {
-      answer = c .before .before .judged .ensures ∙ ap (λ (n : ℕ). judged n v 0 v) (c .before .before .before .refusal .ensures);
+      answered = c .refused .ensures ∙ sym (refuses chip Forecast v 1 (sym (on-false _ 0 1 ill)) (λ z. omega (arith, z)));
       told = λ w. absurd (true≢false (sym w ∙ ill));
       refused = λ w. refl;
     }

@@ -5,22 +5,22 @@ use Rattle.clocks.specs.Forecasts.{comes}
 use Rattle.clocks.specs.declared.Forecast.{Forecast}
 use Rattle.timers.specs.First as First
 use Rattle.timers.specs.Second as Second
-use Rattle.timers.specs.declared.Timers.{Timers}
+use Rattle.timers.specs.declared.T1.{T1}
+use Rattle.timers.specs.declared.T2.{T2}
 use Rattle.via6522.proofs.Lines.{line-after}
 use Rattle.via6522.proofs.Via.foreseen.Statement.{statement}
 use Rattle.via6522.proofs.Via.foreseen.Tie as tie
 
 returns : tie.Need-returns
-returns c = let v = c .before .before .before .before .before .before .args .self in
-    let e = sym (c .before .before .before .before .before .timers .ensures) in
-    let f = c .before .before .due in
+returns c =
+    let f = c .before .before .before .due in
     let g = c .before .due2 in
     λ k.
-    line-after v (f .result) (g .result)
-    (λ k. ap (λ (p : Timers). after k First.clocked (p .t1) .flag) e ∙ f .ensures k)
-    (λ k. ap (λ (p : Timers). after k Second.clocked (p .t2) .flag) e ∙ g .ensures k)
+    line-after (c .before .before .before .before .before .args .self) (f .result) (g .result)
+    (λ k. ap (λ (t : T1). after k First.clocked t .flag) (sym (c .before .before .before .before .first .ensures)) ∙ f .ensures k)
+    (λ k. ap (λ (t : T2). after k Second.clocked t .flag) (sym (c .before .before .second .ensures)) ∙ g .ensures k)
     k
     ∙ ap (λ (h : Forecast). comes h k) (sym (c .soonest .ensures))
 
 pub foreseen-spec : {M : Type 1} → statement M
-foreseen-spec = tie.close (tie.spec (λ c κs. search needs) (λ c κs. search needs) (λ c κs. search needs) (λ c κs. search needs) returns)
+foreseen-spec = tie.close (tie.spec (λ c κs. search needs) (λ c κs. search needs) (λ c κs. search needs) (λ c κs. search needs) (λ c κs. search needs) returns)

@@ -1,10 +1,8 @@
 use borrow.Author.Needs.{needs}
-use Rattle.via6522.specs.Answers.{refusal}
 use Rattle.via6522.proofs.Via.refusal.Statement.{statement}
 use Rattle.via6522.proofs.Via.refusal.Tie as tie
 
 returns : tie.Need-returns
-unfolding refusal
 returns c = rw (c .choose8 .ensures, c .before .well-formed .ensures)
 
 pub refusal-spec : {M : Type 1} → statement M

@@ -1,0 +1,70 @@
+use borrow.Author.Needs.{needs}
+use denote.Ref.{now}
+use lib.Dec.{lit<, lit≤}
+use mathlib.Core.Path.{ap, _∙_}
+use Prim.Native.Nat.{ℕ}
+use Rattle.calls.specs.declared.Call22.the-variants as Via
+use Rattle.calls.specs.declared.Call32.the-variants as Riot
+use Rattle.calls.specs.declared.Call45.the-variants as Crtc
+use Rattle.frames.specs.declared.Frame.the-variants.{To22, To32, To45}
+use Rattle.frames.proofs.Lines.{no-more, word-bytes, no-word, no-bytes, count-is, found, not-found, four-other, and-no}
+use Rattle.frames.proofs.four.Statement.{statement}
+use Rattle.frames.proofs.four.Tie as tie
+
+returns : tie.Need-returns
+returns c =
+    let d = c .before in
+    let s = d .before .before in
+    no-bytes _ 4 (s .pre) (lit≤ tt) (no-word (now (s .args .line)) 4 _ (d .word-at .ensures) 2 (c .if1 .taken))
+
+returns-2 : tie.Need-returns-2
+returns-2 c =
+    let d = c .before in
+    let s = d .before .before .before .before in
+    no-bytes _ 4 (s .pre) (lit≤ tt) (simp (no-word (now (s .args .line)) 8 _ (d .word-at2 .ensures) 0 (c .if2 .taken), and-no))
+
+returns-3 : tie.Need-returns-3
+returns-3 c =
+    let d = c .before in
+    let a = d .before .before .before .before in
+    let s = a .before .before in
+    let l = now (s .args .line) in
+    let e = a .word-at .ensures in
+    let f = d .before .before .word-at2 .ensures in
+    ap (λ (n : ℕ). To22 (Via.Run n)) (count-is l _ _ e f)
+    ∙ found _ 4 (s .pre) (lit≤ tt) _ (d .word-at3 .ensures) 0x22 0x05 (lit< tt, lit< tt) (c .match .keys1)
+    (word-bytes l 4 _ e (d .before .before .before .if1 .left) (word-bytes l 8 _ f (d .before .if2 .left) no-more))
+
+returns-4 : tie.Need-returns-4
+returns-4 c =
+    let d = c .before in
+    let a = d .before .before .before .before in
+    let s = a .before .before in
+    let l = now (s .args .line) in
+    let e = a .word-at .ensures in
+    let f = d .before .before .word-at2 .ensures in
+    ap (λ (n : ℕ). To32 (Riot.Run n)) (count-is l _ _ e f)
+    ∙ found _ 4 (s .pre) (lit≤ tt) _ (d .word-at3 .ensures) 0x32 0x05 (lit< tt, lit< tt) (c .match .keys2)
+    (word-bytes l 4 _ e (d .before .before .before .if1 .left) (word-bytes l 8 _ f (d .before .if2 .left) no-more))
+
+returns-5 : tie.Need-returns-5
+returns-5 c =
+    let d = c .before in
+    let a = d .before .before .before .before in
+    let s = a .before .before in
+    let l = now (s .args .line) in
+    let e = a .word-at .ensures in
+    let f = d .before .before .word-at2 .ensures in
+    ap (λ (n : ℕ). To45 (Crtc.Run n)) (count-is l _ _ e f)
+    ∙ found _ 4 (s .pre) (lit≤ tt) _ (d .word-at3 .ensures) 0x45 0x05 (lit< tt, lit< tt) (c .match .keys3)
+    (word-bytes l 4 _ e (d .before .before .before .if1 .left) (word-bytes l 8 _ f (d .before .if2 .left) no-more))
+
+returns-6 : tie.Need-returns-6
+returns-6 c =
+    let d = c .before in
+    let r = c .match .rest in
+    not-found _ 4 (d .before .before .before .before .before .before .pre) (lit≤ tt)
+    (four-other _ _ _ (d .word-at3 .ensures) _ _ _ _ (r .0 .0 .1) (r .0 .1) (r .1))
+
+pub four-spec : {M : Type 1} → statement M
+four-spec = tie.close (tie.spec (λ c κs. search needs) returns (λ c κs. search needs) returns-2 (λ c. search needs) (λ c. search needs) (λ c κs. search needs) returns-3 returns-4 returns-5 returns-6)

@@ -1,0 +1,5 @@
+pub mod Formed
+pub mod Clocked
+pub mod Runs
+pub mod Sound
+pub mod Demands

@@ -1,0 +1,3 @@
+pub mod Timer
+pub mod Closed
+pub mod Demands

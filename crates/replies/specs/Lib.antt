@@ -1,0 +1,3 @@
+pub mod Hex
+pub mod Replies
+pub mod Demands

@@ -1,9 +1,0 @@
-use borrow.Author.Needs.{needs}
-use Rattle.riot6532.proofs.access.divider.Statement.{statement}
-use Rattle.riot6532.proofs.access.divider.Tie as tie
-
-returns : tie.Need-returns
-returns c = rw (c .choose163 .ensures, c .before .choose162 .ensures, c .before .before .choose16 .ensures)
-
-pub divider-spec : {M : Type 1} → statement M
-divider-spec = tie.close (tie.spec (λ c κs. search needs) (λ c κs. search needs) (λ c κs. search needs) returns)

@@ -1,0 +1,62 @@
+-- What is made of an answer is what the call leaves and its reply: a read of the 6545, and every call of the 6532.
+use mathlib.Core.Path.{_≡_, refl, ap, ap₂, sym, _∙_}
+use mathlib.Core.Bool.{Bool, true, false}
+use mathlib.Core.List.{List}
+use Prim.Native.Nat.{ℕ}
+use Rattle.clocks.specs.Clocks.{if_then_else_}
+use Rattle.frames.specs.declared.Frame.the-variants.{To32}
+use Rattle.replies.specs.declared.Reply.{Reply}
+use Rattle.calls.specs.declared.Call45.the-variants.{Read}
+use Rattle.calls.specs.declared.Call32.{Call32}
+use Rattle.chips.specs.Chips.{answer}
+use Rattle.riot6532.specs.Record.{beside}
+use Rattle.riot6532.specs.Chip as Chip32
+use Rattle.riot6532.specs.Chip.{whole}
+use Rattle.riot6532.specs.declared.Io.{Io}
+use Rattle.riot6532.specs.declared.Riot.{Riot}
+use Rattle.riot6532.specs.declared.Answer as Answer32
+use Rattle.riot6532.specs.declared.IoAnswer.{IoAnswer}
+use Rattle.crtc6545.specs.Chip.{readingOf}
+use Rattle.crtc6545.specs.declared.Crtc.{Crtc}
+use Rattle.session.specs.Steps.{Kind, nothing, a-byte, told, replied, lineOf, lines45, kind32, forecast32, stepOf}
+use Rattle.session.specs.Core.{joined, done32, data32, shown45, data45, After, after45, stepped}
+use Rattle.session.specs.declared.Core.{Core}
+use Rattle.session.specs.declared.After32.{After32}
+
+shown-told : (u : Bool) (l d : ℕ) → shown45 u l d ≡ told (if u then nothing else a-byte) l d 0
+shown-told true l d = refl
+shown-told false l d = refl
+
+pub read45 : (a : ℕ) (v : Crtc) → data45 (readingOf a v) ≡ after45 v (Read a)
+unfolding readingOf
+read45 a v =
+    let r = readingOf a v in
+    ap (λ (x : Reply). record { crtc = r .answer .crtc; reply = replied (r .answer .refusal) x })
+    (shown-told (r .undriven) (lines45 (r .answer)) (r .answer .«data»))
+
+-- what is made of an answer of the 6532, its RAM beside it, is what the call leaves and its reply
+module _ (before now : List ℕ) (io : Io) (c : Call32) (a : IoAnswer) (e : whole now a ≡ answer Chip32.chip c (beside before io)) where
+  abbrev tells : Kind → Answer32.Answer → Reply
+  tells k r = replied (r .refusal) (told k (lineOf (r .irq)) (r .«data») (forecast32 (beside before io)))
+
+  pub done-after : kind32 c ≡ nothing → After before now io c (done32 a)
+  done-after k =
+      record {
+        riot = ap (λ (r : Answer32.Answer). r .riot) e;
+        reply = ap (tells nothing) e ∙ ap (λ (j : Kind). tells j (answer Chip32.chip c (beside before io))) (sym k);
+      }
+
+  pub data-after : kind32 c ≡ a-byte → After before now io c (data32 a)
+  data-after k =
+      record {
+        riot = ap (λ (r : Answer32.Answer). r .riot) e;
+        reply = ap (tells a-byte) e ∙ ap (λ (j : Kind). tells j (answer Chip32.chip c (beside before io))) (sym k);
+      }
+
+-- the 6532 moved within the bench
+pub moved32 :
+    (before now : List ℕ) (b : Core) (c : Call32) {r : After32} → After before now (b .io) c r
+    → stepped now (record { core = record { via = b .via; io = r .io; crtc = b .crtc }; reply = r .reply }) ≡ stepOf (joined before b) (To32 c)
+unfolding stepOf
+moved32 before now b c a =
+    ap₂ (λ (v : Riot) (x : Reply). record { bench = record { via = b .via; riot = v; crtc = b .crtc }; reply = x }) (a .riot) (a .reply)
