@@ -3,6 +3,7 @@ use mathlib.Core.Path.{_≡_, refl}
 use mathlib.Core.Bool.{Bool, true}
 use Rattle.clocks.specs.Clocks.{after}
 use Rattle.clocks.specs.Bits.{bit, withBit, withSet, withClear, shares}
+use Rattle.clocks.specs.Ranges.{within}
 use Rattle.chips.specs.Chips.{answer}
 use Rattle.timers.specs.First as First
 use Rattle.timers.specs.Second as Second
@@ -55,7 +56,7 @@ unfolding
     Access22.readAsks Access22.readOf Access22.writeAsks Access22.stored Access22.writeOf
     Clock22.timersOf Clock22.withTimers Clock22.clockOf Closed22.steady Closed22.soonest
     Timer.clocked Access32.ioWritten Access32.writeOf
-    Raster.within Raster.wellRegisters Raster.wellLine Raster.wellFrame Raster.wellRaster Raster.rasterUp Stored.stored
+    within Raster.wellRegisters Raster.wellLine Raster.wellFrame Raster.wellRaster Raster.rasterUp Stored.stored
     Clocked.lineClocked Clocked.newFrame Clocked.adjustMoved Clocked.rowEnded Clocked.frameMoved Clocked.vsyncStarted Clocked.lineEnded
     Clocked.rasterClocked Signals.maOf Signals.signalsOf
     Crtc6545.wellFormed Crtc6545.powerUp Access45.writeOf Clock45.strobed Clock45.clockOf Chip45.accepted
