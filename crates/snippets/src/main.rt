@@ -1,0 +1,72 @@
+// README's two examples, line by line as they stand there. The program writes what their comments say of the answers;
+// tests/readme holds both against README.md.
+use clocks::Forecast;
+use libc::STDOUT_FILENO;
+
+fn say(text: &[u8]) {
+    io::write_all(STDOUT_FILENO, text);
+}
+
+fn say_line(name: &[u8], line: bool) {
+    say(name);
+    if line {
+        say(b" is true\n");
+    } else {
+        say(b" is false\n");
+    }
+}
+
+// The last digit of a number, in upper case.
+fn digit(n: u8) -> u8 {
+    let d = n % 16;
+    if d < 10 { d + 48 } else { d + 55 }
+}
+
+fn say_byte(name: &[u8], byte: u8) {
+    let digits = [digit(byte / 16), digit(byte), 10];
+    say(name);
+    say(b" is 0x");
+    say(&digits);
+}
+
+fn say_forecast(name: &[u8], forecast: Forecast) {
+    say(name);
+    match forecast {
+        Forecast::Never => say(b" is Forecast::Never\n"),
+        Forecast::In(clocks) => {
+            say(b" is Forecast::In(");
+            io::print_decimal(STDOUT_FILENO, clocks as u64);
+            say(b")\n");
+        }
+    }
+}
+
+fn interval() {
+    let riot = riot6532::Riot::power_up();
+    let answer = riot.write(0x9D, 52); // load the timer: 52, divided by 8, interrupt enabled
+    let ahead = answer.riot.forecast(); // ahead.forecast is Forecast::In(417)
+    let later = answer.riot.run(417); // later.irq is true
+    let forecast = ahead.forecast;
+    say_forecast(b"ahead.forecast", forecast);
+    say_line(b"later.irq", later.irq);
+}
+
+fn one_shot() {
+    let via = via6522::Via::power_up();
+    let enabled = via.write(14, 0xC0); // IER: T1 may interrupt
+    let latched = enabled.via.write(4, 3); // T1's low latch
+    let loaded = latched.via.write(5, 0); // its high latch: T1 is loaded with 3, and armed
+    let ahead = loaded.via.forecast(); // ahead.forecast is Forecast::In(4)
+    let later = loaded.via.run(4); // later.irq is true
+    let read = later.via.read(4); // read.data is 0xFF, read.irq is false: the read took the flag
+    let forecast = ahead.forecast;
+    say_forecast(b"ahead.forecast", forecast);
+    say_line(b"later.irq", later.irq);
+    say_byte(b"read.data", read.data);
+    say_line(b"read.irq", read.irq);
+}
+
+fn main() {
+    interval();
+    one_shot();
+}
