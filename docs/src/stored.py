@@ -7,9 +7,11 @@ tests/stored --make does that, and has the reference write the answers. The
 same bytes come out each time. The session begins with document 01's worked
 one and goes on rule by rule: every kind of frame, every refusal with each of
 its causes, what is easy to get wrong, the twelve marked cases, lines that are
-no frame, each register of each chip, the longest runs. Its last part is made
-by sessions.py. After a call that changes something come calls that show it,
-for a bench that gets the rule wrong has to answer one of them differently.
+no frame, each register of each chip, the longest runs. After a call that
+changes something come calls that show it, for a bench that gets the rule wrong
+has to answer one of them differently. The last three quarters are made by
+sessions.py; they reach other states, and make the session eight times as
+long as the program's buffer, so that a program that stops reading is found.
 
 The longest runs are few: the reference also answers this session one clock at
 a time, and one such run of the 6522 alone takes it some ten seconds.
@@ -580,9 +582,15 @@ def longest_runs():
 
 
 def generated():
-    """sessions.py's stories; runs are kept short, for the reference also goes clock by clock."""
-    for seed, count, chips in ((1, 300, ("22",)), (2, 200, ("32",)), (3, 300, ("45",)), (4, 700, ("22", "32", "45"))):
-        yield from sessions.session(seed, count, 70_000, chips, 4)
+    """sessions.py's stories of each chip alone and of all three, more or less hostile. Runs are kept short, for the
+    reference also goes clock by clock."""
+    every = ("22", "32", "45")
+    for seed, count, longest, chips, hostile in (
+        (1, 4_000, 70_000, ("22",), 2), (2, 3_000, 70_000, ("32",), 2), (3, 4_000, 70_000, ("45",), 2),
+        (4, 12_000, 70_000, every, 4), (5, 3_000, 300, every, 12), (6, 2_000, 3, every, 0),
+        (7, 1_000, 3_000_000, every, 4), (8, 1_000, 70_000, every, 40),
+    ):
+        yield from sessions.session(seed, count, longest, chips, hostile)
 
 
 SECTIONS = (
