@@ -1,13 +1,22 @@
-"""What the tests share: where things stand, and how the two programs are made."""
+"""What the tests share: where things stand, how the two programs are made, fed and compared."""
 
+import fcntl
 import os
 import shutil
+import struct
 import subprocess
 import sys
+import termios
+import threading
+import time
 
 ROOT = os.path.dirname(os.path.dirname(os.path.realpath(__file__)))
 WORK = os.path.join(ROOT, "target", "tests")
 BENCH = os.path.join(ROOT, "bin", "bench")
+# A pipe in packet mode hands each write to a read of its own, as long as it is no longer than this.
+LONGEST_PACKET = 4_096
+# The most that a pipe can be asked to hold.
+LARGEST_PIPE = 1 << 20
 
 
 def stop(message):
@@ -55,3 +64,62 @@ def answers(command, session, path):
         done = subprocess.run(command, stdin=session, stdout=file, stderr=subprocess.PIPE)
     if done.returncode != 0 or done.stderr:
         stop(f"{command[0]}: status {done.returncode}, standard error {done.stderr!r}")
+
+
+# ------------------------------------------------------------------ feeding
+
+def from_file(command, session, output):
+    with open(session, "rb") as file:
+        answers(command, file, output)
+
+
+def through_pipe(command, session, output, sizes, packets=False, wait=False):
+    """Feeds a session in pieces of these sizes, through a pipe.
+
+    A read of the program ends where a piece ends if the pieces are packets, or if each waits until the pipe is empty.
+    """
+    reading, writing = os.pipe2(os.O_CLOEXEC | (os.O_DIRECT if packets else 0))
+    if wait:
+        fcntl.fcntl(writing, fcntl.F_SETPIPE_SZ, LARGEST_PIPE)
+    ended = threading.Event()
+    feeder = threading.Thread(target=write_pieces, args=(writing, session, sizes, wait, ended))
+    feeder.start()
+    try:
+        answers(command, reading, output)
+    finally:
+        ended.set()
+        os.close(reading)  # a feeder that still writes gets an error and ends
+        feeder.join()
+
+
+def write_pieces(writing, session, sizes, wait, ended):
+    with open(session, "rb") as file, os.fdopen(writing, "wb", buffering=0) as pipe:
+        try:
+            while piece := file.read(next(sizes)):
+                while wait and not ended.is_set() and held(writing):
+                    time.sleep(0.000_02)
+                while piece:
+                    piece = piece[pipe.write(piece):]
+        except BrokenPipeError:
+            pass  # the program's answers will tell
+
+
+def held(pipe):
+    """How many bytes a pipe has that nobody has read."""
+    return struct.unpack("i", fcntl.ioctl(pipe, termios.FIONREAD, bytes(4)))[0]
+
+
+# ---------------------------------------------------------------- comparing
+
+def difference(session, wanted, got):
+    """Says where two outputs part."""
+    wanted, got = wanted.split(b"\n"), got.split(b"\n")
+    number = next((number for number, (one, two) in enumerate(zip(wanted, got)) if one != two), min(len(wanted), len(got)))
+    with open(session, "rb") as file:
+        lines = file.read().split(b"\n")
+
+    def at(parts):
+        return repr(parts[number])[1:200] if number < len(parts) else "nothing"
+
+    return (f"  line {number + 1}: {at(lines)}\n  reference: {at(wanted)}\n  bench:     {at(got)}\n"
+            f"  the session is kept: {os.path.relpath(session)}")
