@@ -58,7 +58,7 @@ fn one_shot() {
     let loaded = latched.via.write(5, 0); // its high latch: T1 is loaded with 3, and armed
     let ahead = loaded.via.forecast(); // ahead.forecast is Forecast::In(4)
     let later = loaded.via.run(4); // later.irq is true
-    let read = later.via.read(4); // read.data is 0xFF, read.irq is false: the read took the flag
+    let read = later.via.read(4); // read.data is 0xFF, read.irq is false: the read cleared the flag
     let forecast = ahead.forecast;
     say_forecast(b"ahead.forecast", forecast);
     say_line(b"later.irq", later.irq);
