@@ -38,7 +38,7 @@ pub power-up-reset : Demands.Power-up-reset
 power-up-reset = refl
 
 pub whole-one : Demands.Whole-one
-whole-one m r s e = ap apart e
+whole-one m n r s e = (ap (λ (a : Answer). a .riot .ram) e, ap apart e)
   where
     apart : Answer → IoAnswer
     apart a = record { refusal = a .refusal; «data» = a .«data»; irq = a .irq; pa = a .pa; pb = a .pb; io = a .riot .io }

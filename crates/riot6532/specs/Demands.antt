@@ -23,6 +23,6 @@ Lines = Chips.Lines chip clocked lined
 abbrev pub Power-up-reset : Type 0
 Power-up-reset = resetOf powerUp ≡ powerUp
 
--- any two answers without the RAM that a promise allows coincide, since with it they are the chip's answer
+-- any two answers without the RAM that a promise allows coincide, and so do the RAMs beside them, since together they are the chip's answer
 abbrev pub Whole-one : Type 0
-Whole-one = (m : List ℕ) (r s : IoAnswer) → whole m r ≡ whole m s → r ≡ s
+Whole-one = (m n : List ℕ) (r s : IoAnswer) → whole m r ≡ whole n s → (m ≡ n) × (r ≡ s)
