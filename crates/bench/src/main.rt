@@ -3,7 +3,7 @@ ghost use mathlib.Core.Path.{_≡_};
 ghost use Prim.Native.Nat.{_+_, _*_, _≤_};
 ghost use lib.ListN.{length, take};
 ghost use Rattle.turns.specs.Turns.{holding};
-ghost use Rattle.bench.specs.Turns.{gave as gaveOf, Turned};
+ghost use Rattle.bench.specs.Turns.{gave as gaveOf, Turned, Ends};
 use libc::STDIN_FILENO;
 use libc::STDOUT_FILENO;
 use session::Bench;
@@ -15,6 +15,12 @@ struct Turn {
     read: Read,
     went: Went,
     written: bool,
+}
+
+// How the turns ended: whether the last of them would go on, and how many there were.
+struct Ended {
+    going: bool,
+    turns: u64,
 }
 
 // The answer of a read that had this space, as a number of bytes; where it failed, standard error says why.
@@ -54,21 +60,27 @@ fn one_turn(bench: Bench, buf: &mut [u8], kept: usize, out: &mut [u8]) -> Turn
     }
 }
 
-// The count of turns is there for the prover alone: it wants every loop to end, and input need not.
-fn main() {
+// Turns until no more may come or not all was written. They are counted because the prover wants every loop to end, and input need not.
+fn all_turns() -> Ended
+    ensures { λ r. ⌜ Ends r ⌝ }
+{
     let mut buf = [0u8; 65536];
     let mut out = [0u8; 196621];
     let mut bench = Bench::power_up();
     let mut kept: usize = 0;
-    let mut turns = u64::MAX;
-    while turns > 0 {
+    let mut going = true;
+    let mut turns: u64 = 0;
+    while going & (turns < u64::MAX) {
         let t = one_turn(bench, &mut buf, kept, &mut out);
         let went = t.went;
-        if !(went.more & t.written) {
-            return;
-        }
         bench = went.bench;
         kept = went.kept;
-        turns -= 1;
+        going = went.more & t.written;
+        turns += 1;
     }
+    Ended { going, turns }
+}
+
+fn main() {
+    all_turns();
 }
