@@ -9,7 +9,7 @@ use Rattle.clocks.specs.Clocks.{if_then_else_}
 unfoldable pub bit : ℕ → ℕ → Bool
 bit k x = eqb (x / 2 ^ k % 2) 1
 
--- x with the bits of the mask m set, and with those that both have taken away
+-- x with the bits of the mask m set, and with them cleared
 unfoldable pub withSet : ℕ → ℕ → ℕ
 withSet m x = bitOr x m
 

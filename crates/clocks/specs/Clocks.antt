@@ -13,6 +13,6 @@ unfoldable pub after : {A : Type 0} → ℕ → (A → A) → A → A
 after zero f x = x
 after (suc n) f x = f (after n f x)
 
--- one less than c; below 0 comes the highest of the w numbers
+-- one less than c; after 0 the highest of the w numbers
 abbrev pub lower : ℕ → ℕ → ℕ
 lower w c = if eqb c 0 then w - 1 else c - 1

@@ -1,4 +1,4 @@
--- When a thing comes to stand: after a number of clocks, or never.
+-- A forecast: after how many clocks a flag is set or a line asserted, or that it never is.
 use mathlib.Core.Bool.{Bool, false}
 use Prim.Native.Nat.{ℕ, zero, suc}
 use lib.Dec.{leb}
@@ -11,7 +11,7 @@ abbrev pub numberOf : Forecast → ℕ
 numberOf Never = 4294967295
 numberOf (In d) = d
 
--- whether what is forecast stands after k clocks
+-- whether what is forecast is set, or asserted, after k clocks
 abbrev pub comes : Forecast → ℕ → Bool
 comes Never k = false
 comes (In d) k = leb d k

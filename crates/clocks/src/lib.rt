@@ -4,14 +4,14 @@ ghost use Rattle.clocks.specs.Clocks.{if_then_else_};
 ghost use Rattle.clocks.specs.Forecasts.{numberOf, soonerOf};
 ghost use Rattle.clocks.specs.Bits.{bit as bitOf, withSet, withClear, merge as mergeOf, shares as sharesOf};
 
-// When something will stand: so many clocks from now, or at no time.
+// When a flag is set or a line asserted: so many clocks from now, or at no time.
 pub enum Forecast {
     Never,
     In(u32),
 }
 
 impl Forecast {
-    // The number that stands for never.
+    // The number for never.
     pub const NEVER: u32 = 4294967295;
 
     pub fn number(self) -> u32
@@ -23,7 +23,7 @@ impl Forecast {
         }
     }
 
-    // The forecast of what comes only where it is let through.
+    // The forecast of what shows only where it is let through.
     pub fn gated(self, through: bool) -> Forecast
         ensures { λ r. ⌜ r ≡ (if through then self else Forecast.Never) ⌝ }
     {
@@ -70,7 +70,7 @@ pub fn merge(mask: u8, x: u8, y: u8) -> u8
     (x & mask) | (y & !mask)
 }
 
-// x with the bits of the mask set, or taken away.
+// x with the bits of the mask set, or cleared.
 pub fn with_mask(mask: u8, on: bool, x: u8) -> u8
     ensures { λ r. ⌜ r ≡ (if on then withSet mask x else withClear mask x) ⌝ }
 {

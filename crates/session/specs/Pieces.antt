@@ -36,7 +36,7 @@ pub record Written (before now : List ℕ) (made : ℕ) (x : List ℕ) : Type 0 
   pub text : take made now ≡ x
   pub rest : drop made now ≡ drop made before
 
--- what is made of some lines with an output buffer: as many as it has room for are taken, and their answers stand at its front
+-- what is made of some lines with an output buffer: as many as it has room for are taken, and their answers are at its front
 pub record Feeds (b : Bench) (ls : List (List ℕ)) (before now : List ℕ) (r : Fed) : Type 0 where
   pub bench : r .bench ≡ takes (length before) b ls .bench
   pub used : r .used ≡ takes (length before) b ls .used

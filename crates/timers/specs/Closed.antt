@@ -6,7 +6,7 @@ use Rattle.clocks.specs.Clocks.{if_then_else_, after}
 use Rattle.timers.specs.First.{at}
 use Rattle.timers.specs.declared.T1.{T1}
 
--- how many counts T1 stands above zero; a reload to come is one more than the latch
+-- how many counts T1 is above zero; a reload to come is one more than the latch
 abbrev pub topOf : T1 → ℕ
 topOf t = if t .mark then t .latch + 1 else t .counter
 

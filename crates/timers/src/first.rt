@@ -9,7 +9,7 @@ use crate::T1;
 use clocks::Forecast;
 
 impl T1 {
-    // The counter stands at `counter`, and no reload is to come.
+    // The counter is at `counter`, and no reload is to come.
     fn at(mut self, counter: u16) -> T1
         ensures { λ r. ⌜ r ≡ atOf counter self ⌝ }
     {
@@ -18,7 +18,7 @@ impl T1 {
         self
     }
 
-    // How many counts it stands above zero; a reload to come is one more than the latch.
+    // How many counts it is above zero; a reload to come is one more than the latch.
     fn top(self) -> u32
         ensures { λ r. ⌜ (r ≡ topOf self) × (r ≤ 65536) ⌝ }
     {
@@ -93,7 +93,7 @@ impl T1 {
         self.turned(past / (low + 1)).fallen(low - past % (low + 1))
     }
 
-    // When the flag stands.
+    // When the flag is set.
     pub fn due(self) -> Forecast
         ensures { λ r. ⌜ ((k : ℕ) → after k clockedOf self .flag ≡ comes r k) ⌝ }
     {

@@ -56,7 +56,7 @@ impl T2 {
         self
     }
 
-    // When the flag stands, with PB6 still.
+    // When the flag is set, with PB6 still.
     pub fn due(self) -> Forecast
         ensures { λ r. ⌜ ((k : ℕ) → after k clockedOf self .flag ≡ comes r k) ⌝ }
     {
