@@ -45,13 +45,21 @@ module _ (C : Chip) (c : C .Call) (v : C .State) (k : ℕ) (e : k ≡ first C c 
       go true q = absurd (z (q ∙ n))
       go false q = refl
 
--- ---- what a chip shows of itself: where its answers have what they show, that no operand is refused with 1, and that calls keep it well formed
+-- ---- what a chip shows of itself: where its answers have what they show, what operands are refused with, and that calls keep it well formed
+
+-- the numbers of operands: 0, or 3 and above
+abbrev pub Operands : ℕ → Type 0
+Operands n = (n ≡ 0 → ⊥) → 3 ≤ n
+
+pub operands-none : Operands 0
+operands-none z = absurd (z refl)
+
 pub record Lawful (C : Chip) : Type 0 where
   pub number-accepted : (d : ℕ) (v : C .State) → C .number (C .accepted d v) ≡ 0
   pub number-refused : (n : ℕ) (v : C .State) → C .number (C .refused n v) ≡ n
   pub left-accepted : (d : ℕ) (v : C .State) → C .left (C .accepted d v) ≡ v
   pub left-refused : (n : ℕ) (v : C .State) → C .left (C .refused n v) ≡ v
-  pub other : (c : C .Call) (v : C .State) → C .asks c v ≡ 1 → ⊥
+  pub other : (c : C .Call) (v : C .State) → Operands (C .asks c v)
   pub starts : C .well (C .powerUp) ≡ true
   pub keeps : (c : C .Call) (v : C .State) → C .Typed c → C .asks c v ≡ 0 → C .well v ≡ true → C .well (C .leaves c v) ≡ true
 
@@ -86,8 +94,15 @@ module _ (C : Chip) (S : Lawful C) where
   one-only-ill c v =
       by-refusal c v (λ r. C .number r ≡ 1 → C .well v ≡ false)
       (λ w e. w)
-      (λ w z e. absurd (S .other c v (sym (S .number-refused (C .asks c v) v) ∙ e)))
+      (λ w z e. absurd (omega (arith, S .other c v z, sym (S .number-refused (C .asks c v) v) ∙ e)))
       (λ w z e. absurd (omega (arith, sym (S .number-accepted (C .gives c v) (C .leaves c v)) ∙ e)))
+
+  never-2 : Chips.Never-2 C
+  never-2 c v =
+      by-refusal c v (λ r. C .number r ≡ 2 → ⊥)
+      (λ w e. omega (arith, sym (S .number-refused 1 v) ∙ e))
+      (λ w z e. omega (arith, S .other c v z, sym (S .number-refused (C .asks c v) v) ∙ e))
+      (λ w z e. omega (arith, sym (S .number-accepted (C .gives c v) (C .leaves c v)) ∙ e))
 
   refused-leaves : Chips.Refused-leaves C
   refused-leaves c v =
@@ -125,6 +140,7 @@ module _ (C : Chip) (S : Lawful C) where
       record {
         refuses-ill = refuses-ill;
         one-only-ill = one-only-ill;
+        never-2 = never-2;
         refuses-operands = refuses-operands;
         accepts-well = accepts-well;
         refused-leaves = refused-leaves;

@@ -57,6 +57,10 @@ module _ (C : Chip) where
   abbrev pub One-only-ill : Type 0
   One-only-ill = (c : C .Call) (v : C .State) → C .number (answer C c v) ≡ 1 → C .well v ≡ false
 
+  -- 2 is not a chip's to give: it is for a line of a session that is no call
+  abbrev pub Never-2 : Type 0
+  Never-2 = (c : C .Call) (v : C .State) → C .number (answer C c v) ≡ 2 → ⊥
+
   -- a well-formed one is refused with the number of the operands, and accepted where they have none
   abbrev pub Refuses-operands : Type 0
   Refuses-operands =
@@ -84,6 +88,7 @@ module _ (C : Chip) where
   pub record Answers : Type 0 where
     pub refuses-ill : Refuses-ill
     pub one-only-ill : One-only-ill
+    pub never-2 : Never-2
     pub refuses-operands : Refuses-operands
     pub accepts-well : Accepts-well
     pub refused-leaves : Refused-leaves

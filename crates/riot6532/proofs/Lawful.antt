@@ -2,14 +2,13 @@
 use mathlib.Core.Path.{_≡_, refl, sym, _∙_}
 use mathlib.Core.Bool.{true, _&&_}
 use Prim.Native.Nat.{ℕ, zero-le}
-use native.Mathlib.Omega.{arith}
 use lib.Dec.{lit≤}
 use Rattle.clocks.specs.Clocks.{if_then_else_}
 use Rattle.clocks.specs.declared.Forecast.{Forecast}
 use Rattle.clocks.specs.declared.Forecast.the-variants.{Never, In}
 use Rattle.clocks.proofs.Forecasts.{comes-one, AtMost, most-gated, most-sooner, most-in}
 use Rattle.chips.specs.Chips.{Reached, Foretold}
-use Rattle.chips.proofs.Chips.{Lawful, Ticks, Watched, reached-keeps, reached-well}
+use Rattle.chips.proofs.Chips.{Lawful, Ticks, Watched, operands-none, reached-keeps, reached-well}
 use Rattle.interval.specs.Timer.{Due}
 use Rattle.interval.specs.Closed.{dueOf}
 use Rattle.interval.specs.Demands as Interval
@@ -30,7 +29,7 @@ lawful =
       number-refused = λ n v. refl;
       left-accepted = λ d v. refl;
       left-refused = λ n v. refl;
-      other = λ c v e. omega (arith, e);
+      other = λ c v. operands-none;
       starts = refl;
       keeps = λ c v t n w. leaves-well c v t w;
     }
