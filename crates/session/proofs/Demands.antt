@@ -29,6 +29,9 @@ chips-reached = Reaching.chips-reached
 pub never-1 : Demands.Never-1
 never-1 = Reaching.never-1
 
+pub two-exact : Demands.Two-exact
+two-exact = Reaching.two-exact
+
 pub line-for-line : Demands.Line-for-line
 line-for-line = Answering.line-for-line
 

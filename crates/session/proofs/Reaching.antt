@@ -103,3 +103,18 @@ never-1 ls l e =
     (λ c. not-1 Chip32.chip Lawful32.lawful _ c (r .riot))
     (λ c q. not-1 Chip45.chip Lawful45.lawful _ c (r .crtc) q)
     (frameOf l) (ap number e)
+
+-- a reply says 2 only to what is no frame: a chip answers with another number
+two-only : (b : Bench) (f : Frame) → number (stepOf b f .reply) ≡ 2 → f ≡ Unknown
+unfolding stepOf
+two-only b Unknown e = refl
+two-only b (To22 c) e =
+    absurd (answers Chip22.chip Lawful22.lawful .never-2 c (b .via) (sym (number-replied (answer Chip22.chip c (b .via) .refusal) (kind22 c) _ _ _) ∙ e))
+two-only b (To32 c) e =
+    absurd (answers Chip32.chip Lawful32.lawful .never-2 c (b .riot) (sym (number-replied (answer Chip32.chip c (b .riot) .refusal) (kind32 c) _ _ _) ∙ e))
+two-only b (To45 c) e =
+    absurd (answers Chip45.chip Lawful45.lawful .never-2 c (b .crtc) (sym (number-replied (answer Chip45.chip c (b .crtc) .refusal) (kind45 c (b .crtc)) _ _ _) ∙ e))
+
+pub two-exact : Demands.Two-exact
+unfolding stepOf number
+two-exact b l = (λ e. two-only b (frameOf l) (ap number e), λ e. ap (λ (f : Frame). stepOf b f .reply) e)

@@ -1,9 +1,11 @@
 -- What the demands ask of sessions. proofs/Demands.antt has a proof of each statement, under its name in small letters.
 use mathlib.Core.Path.{_≡_}
+use mathlib.Core.Logic.{_↔_}
 use mathlib.Core.List.{List, [], _++_}
 use Prim.Native.Nat.{ℕ, _+_, _*_, _<_, _≤_}
 use lib.ListN.{length, take, drop}
 use Rattle.frames.specs.Frames.{frameOf}
+use Rattle.frames.specs.declared.Frame.the-variants.{Unknown}
 use Rattle.replies.specs.declared.Reply.the-variants.{Refused}
 use Rattle.clocks.specs.Forecasts.{numberOf}
 use Rattle.clocks.specs.declared.Forecast.{Forecast}
@@ -70,6 +72,10 @@ Chips-reached =
 -- so refusal 1 is given to no line
 abbrev pub Never-1 : Type 0
 Never-1 = (ls : List (List ℕ)) (l : List ℕ) → stepOf (nextAll powerUp ls) (frameOf l) .reply ≡ Refused 1 → ⊥
+
+-- refusal 2 is given exactly to a line that is no frame
+abbrev pub Two-exact : Type 0
+Two-exact = (b : Bench) (l : List ℕ) → (stepOf b (frameOf l) .reply ≡ Refused 2) ↔ (frameOf l ≡ Unknown)
 
 -- one line is written for each line of a file, and nothing after the last one's LF
 abbrev pub Line-for-line : Type 0
