@@ -83,7 +83,7 @@ impl Riot {
     // The largest forecast of a reached record: 255 over 1024, just loaded.
     pub const LARGEST_FORECAST: u32 = 261121;
 
-    // Proves the constant.
+    // The constant is the number that Forecast-bound proves.
     fn largest() -> u32
         ensures { λ r. ⌜ r ≡ largestForecast ⌝ }
     {
