@@ -4,14 +4,14 @@ ghost use Rattle.clocks.specs.Clocks.{if_then_else_};
 ghost use Rattle.clocks.specs.Forecasts.{numberOf, soonerOf};
 ghost use Rattle.clocks.specs.Bits.{bit as bitOf, withSet, withClear, merge as mergeOf, shares as sharesOf};
 
-// When a flag is set or a line asserted: so many clocks from now, or at no time.
+// When a flag is set or a line asserted: so many clocks from now, or never.
 pub enum Forecast {
     Never,
     In(u32),
 }
 
 impl Forecast {
-    // The number for never.
+    // The number that stands for never.
     pub const NEVER: u32 = 4294967295;
 
     pub fn number(self) -> u32
@@ -23,7 +23,7 @@ impl Forecast {
         }
     }
 
-    // The forecast of what shows only where it is let through.
+    // The forecast where the gate is open, else never.
     pub fn gated(self, through: bool) -> Forecast
         ensures { λ r. ⌜ r ≡ (if through then self else Forecast.Never) ⌝ }
     {
@@ -50,10 +50,10 @@ pub fn choose8(test: bool, x: u8, y: u8) -> u8
     if test { x } else { y }
 }
 
-pub fn choose16(test: bool, x: u16, y: u16) -> u16
-    ensures { λ r. ⌜ r ≡ (if test then x else y) ⌝ }
+pub fn choose16(test: bool, a: u16, b: u16) -> u16
+    ensures { λ r. ⌜ r ≡ (if test then a else b) ⌝ }
 {
-    if test { x } else { y }
+    if test { a } else { b }
 }
 
 // Bit k of x; a byte has none above 7.

@@ -110,22 +110,28 @@ fn access_clears(register: u8, pcr: u8) -> u8
     }
 }
 
+// A read of a timer's low byte clears its flag, one of the high byte does not.
 pub fn read_clears(register: u8, pcr: u8) -> u8
     ensures { λ r. ⌜ r ≡ readClears register pcr ⌝ }
 {
     match register {
         4 => 64,
+        5 => 0,
         8 => 32,
+        9 => 0,
         _ => access_clears(register, pcr),
     }
 }
 
+// A write of T1's high latch clears its flag, one of a low latch does not.
 pub fn write_clears(register: u8, value: u8, pcr: u8) -> u8
     ensures { λ r. ⌜ r ≡ writeClears register value pcr ⌝ }
 {
     match register {
         5 => 64,
+        6 => 0,
         7 => 64,
+        8 => 0,
         9 => 32,
         13 => value % 128,
         _ => access_clears(register, pcr),

@@ -9,7 +9,7 @@ use crate::T1;
 use clocks::Forecast;
 
 impl T1 {
-    // The counter is at `counter`, and no reload is to come.
+    // The counter at `counter`, the mark cleared.
     fn at(mut self, counter: u16) -> T1
         ensures { λ r. ⌜ r ≡ atOf counter self ⌝ }
     {
@@ -18,7 +18,7 @@ impl T1 {
         self
     }
 
-    // How many counts it is above zero; a reload to come is one more than the latch.
+    // How many counts it is above zero; with the mark set, one more than the latch.
     fn top(self) -> u32
         ensures { λ r. ⌜ (r ≡ topOf self) × (r ≤ 65536) ⌝ }
     {
@@ -33,11 +33,8 @@ impl T1 {
     fn low(self) -> u32
         ensures { λ r. ⌜ (r ≡ lowOf self) × (r ≤ 65536) ⌝ }
     {
-        if self.free {
-            self.latch as u32 + 1
-        } else {
-            65535
-        }
+        let latch = self.latch as u32;
+        if self.free { latch + 1 } else { 65535 }
     }
 
     // The passing of zero, and q more.

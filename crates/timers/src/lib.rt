@@ -1,4 +1,4 @@
-// The timer pair of the 6522, T1 and T2, each with its flag and its mode: one clock as document 01 has it, n clocks at once, and when each flag is set.
+// The timer pair of the 6522, T1 and T2, each with its flag and its mode: one clock, n clocks at once, and when each flag is set.
 ghost use mathlib.Core.Path.{_≡_};
 ghost use Rattle.clocks.specs.Clocks.{after};
 ghost use Rattle.timers.specs.Pair.{clocked as clockedPair};

@@ -1,4 +1,4 @@
-use Prim.Native.Nat.{ℕ, _+_, _-_, _/_, _%_, _<_}
+use Prim.Native.Nat.{ℕ, _+_, _-_, _/_, _%_, _<_, _≤_}
 use borrow.Author.Needs.{needs}
 use mathlib.Core.Path.{_∙_, ap, sym}
 use native.Mathlib.Nat.{mod-lt}
@@ -8,8 +8,8 @@ use Rattle.timers.proofs.Firsts.{ran-short, ran-past}
 use Rattle.timers.proofs.T1.run.Statement.{statement}
 use Rattle.timers.proofs.T1.run.Tie as tie
 
-some : (k : ℕ) → 0 < k + 1
-some k = omega arith
+under : (n k : ℕ) → n % (k + 1) ≤ k
+under n k = let some : 0 < k + 1 = omega arith in omega (arith, mod-lt n some)
 
 returns : tie.Need-returns
 returns c = let t = c .before .before .before .args .self in
@@ -18,7 +18,7 @@ returns c = let t = c .before .before .before .args .self in
     c .fallen .ensures ∙ ap (λ (k : ℕ). fallen (k - n) t) e ∙ sym (ran-short t n (omega (arith, e)))
 
 sub-fallen : tie.Need-sub-fallen
-sub-fallen c = omega (arith, mod-lt (c .before .before .before .before .args .n - c .before .before .before .top .result - 1) (some (c .before .low .result)))
+sub-fallen c = under _ _
 
 fallen-requires-2 : tie.Need-fallen-requires-2
 fallen-requires-2 c κs = rw (c .turned .ensures) (omega (arith, c .before .low .ensures .0))
