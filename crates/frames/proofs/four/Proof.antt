@@ -2,6 +2,7 @@ use borrow.Author.Needs.{needs}
 use denote.Ref.{now}
 use lib.Dec.{lit<, lit≤}
 use mathlib.Core.Path.{ap, _∙_}
+use native.Mathlib.Omega.{arith}
 use Prim.Native.Nat.{ℕ}
 use Rattle.calls.specs.declared.Call22.the-variants as Via
 use Rattle.calls.specs.declared.Call32.the-variants as Riot
@@ -15,7 +16,7 @@ returns : tie.Need-returns
 returns c =
     let d = c .before in
     let s = d .before .before in
-    no-bytes _ 4 (s .pre) (lit≤ tt) (no-word (now (s .args .line)) 4 _ (d .word-at .ensures) 2 (c .if1 .taken))
+    no-bytes _ 4 (s .pre) (lit≤ tt) (no-word (now (s .args .line)) 4 _ (d .word-at .ensures) 2 (omega (arith, c .if1 .taken)))
 
 returns-2 : tie.Need-returns-2
 returns-2 c =
