@@ -1,4 +1,4 @@
--- What holds of every chip, from the few facts that are its own.
+-- The demands on a chip, proved once from the facts that each chip shows of itself.
 use mathlib.Core.Path.{_≡_, refl, sym, ap, ap₂, _∙_}
 use mathlib.Core.Bool.{Bool, true, false}
 use mathlib.Core.Logic.{_↔_}
@@ -76,7 +76,7 @@ module _ (C : Chip) (S : Lawful C) where
   pub accepts-well : Chips.Accepts-well C
   accepts-well c v w z = accepts C c v (C .asks c v) (operands-first c v w) z
 
-  -- a call is refused or accepted: what holds of each answer that there can be holds of the answer
+  -- there are three kinds of answer; a property that each of them has, the answer has
   module _ (c : C .Call) (v : C .State) (P : C .Answer → Type 0) where
     pub by-refusal :
         (C .well v ≡ false → P (C .refused 1 v))
@@ -111,7 +111,7 @@ module _ (C : Chip) (S : Lawful C) where
       (λ w n z. ap (λ (k : ℕ). C .refused k v) (sym (S .number-refused (C .asks c v) v)))
       (λ w n z. absurd (z (S .number-accepted (C .gives c v) (C .leaves c v))))
 
-  -- what accepted calls keep of a record, every call keeps, and every reached record has
+  -- an invariant of the accepted calls is one of all calls, and so holds in every reached record
   module _ (P : C .State → Type 0)
       (keeps : (c : C .Call) (v : C .State) → C .Typed c → C .asks c v ≡ 0 → C .well v ≡ true → P v → P (C .leaves c v)) where
     pub call-keeps : (c : C .Call) (v : C .State) → C .Typed c → P v → P (next C c v)
@@ -156,7 +156,7 @@ module _ (C : Chip) (S : Lawful C) where
   pub ill-leaves : (c : C .Call) (v : C .State) → C .well v ≡ false → next C c v ≡ v
   ill-leaves c v w = ap (C .left) (refuses-ill c v w) ∙ S .left-refused 1 v
 
--- ---- what a clocked chip shows besides: its runs are accepted, a single clock among them, read nothing, and are turns of the rule
+-- ---- and of its clock: runs up to the longest are accepted, read nothing and are so many turns of the rule; 1 is not too long
 pub record Ticks (C : Chip) (T : Clocked C) : Type 0 where
   pub one : 1 ≤ T .longest
   pub run-asks : (n : ℕ) (v : C .State) → n ≤ T .longest → C .asks (T .run n) v ≡ 0
@@ -260,7 +260,7 @@ module _ (C : Chip) (S : Lawful C) (T : Clocked C) (K : Ticks C T) (L : Lined C)
       go true w = comes-one f g (λ k. sym (a .told w k) ∙ b .told w k)
       go false w = a .refused w ∙ sym (b .refused w)
 
-  -- what is forecast after a run is what was forecast before it, so many clocks on
+  -- two forecasts with m clocks between them speak of the same moments
   later :
       (v : C .State) (f g : Forecast) (r s : C .Answer) (m : ℕ) → C .well v ≡ true → m ≤ T .longest
       → Foretold C T L v f r → Foretold C T L (next C (T .run m) v) g s → (j : ℕ) → comes g j ≡ comes f (m + j)

@@ -1,4 +1,4 @@
--- What the bench asks of every chip: what a chip is, how it answers a call, which records calls lead to, and what is to hold of them.
+-- One theory for all chips of the bench: what makes a chip, its answer to a call, the records that can come up, and the demands on them.
 -- Each chip's specs/Chip.antt fills in Chip, Clocked and Lined; its specs/Demands.antt asks for Answers, Runs and Lines of them.
 use mathlib.Core.Path.{_≡_}
 use mathlib.Core.Bool.{Bool, true, false}
@@ -13,7 +13,7 @@ use Rattle.clocks.specs.declared.Forecast.the-variants.{Never, In}
 -- ---- a chip and its answers
 
 -- a chip: its records; its answers; its calls, and which operands are values of their types; power-up; which records are well formed;
--- the number that a call's operands are refused with (0: they are not), the byte that it reads and the record that it leaves; what an
+-- the number that a call's operands are refused with (0: they are not), its byte and the next record; what an
 -- accepted and a refused call show; and where an answer has its refusal's number and its record
 pub record Chip : Type 1 where
   pub State : Type 0
@@ -30,7 +30,7 @@ pub record Chip : Type 1 where
   pub number : Answer → ℕ
   pub left : Answer → State
 
--- the refusal that applies first, 0 for none: 1 for a record that is not well formed, before whatever the operands are refused with
+-- document 01's order: refusal 1, for an ill-formed record, precedes the operands' own; 0 means accepted
 abbrev pub first : (C : Chip) → C .Call → C .State → ℕ
 first C c v = if C .well v then C .asks c v else 1
 
@@ -42,7 +42,7 @@ answer C c v = if eqb (first C c v) 0 then C .accepted (C .gives c v) (C .leaves
 abbrev pub next : (C : Chip) → C .Call → C .State → C .State
 next C c v = C .left (answer C c v)
 
--- every record that some list of calls leads to from power-up; refused calls may be among them
+-- the records that can come up in use: power-up's, and the next one after any typed call on such a record, accepted or refused
 pub data Reached (C : Chip) : C .State → Type 0 where
   at-power-up : Reached C (C .powerUp)
   by : {v : C .State} (c : C .Call) → C .Typed c → Reached C v → Reached C (next C c v)
@@ -50,7 +50,7 @@ pub data Reached (C : Chip) : C .State → Type 0 where
 -- ---- demands 1 and 2: what is refused, what is accepted, and which records stay well formed
 
 module _ (C : Chip) where
-  -- a record that is not well formed is refused with 1, whatever the call, and no other record is
+  -- refusal 1 goes to ill-formed records, for every call, and to them alone
   abbrev pub Refuses-ill : Type 0
   Refuses-ill = (c : C .Call) (v : C .State) → C .well v ≡ false → answer C c v ≡ C .refused 1 v
 
@@ -151,7 +151,7 @@ module _ (C : Chip) (T : Clocked C) (L : Lined C) where
   abbrev pub line : ℕ → C .State → Bool
   line k v = L .irq (after k (T .rule) v)
 
-  -- a forecast f, given with the answer r, leaves the record and says of every number of clocks whether the line is asserted after it;
+  -- what an entry promises that gives the forecast f and the answer r: no change of the record, and the truth about the line after any k clocks;
   -- a refused one says 0
   pub record Foretold (v : C .State) (f : Forecast) (r : C .Answer) : Type 0 where
     pub answered : r ≡ answer C (L .forecast) v
@@ -186,7 +186,7 @@ module _ (C : Chip) (T : Clocked C) (L : Lined C) where
   Forecast-bound =
       (v : C .State) (f : Forecast) (r : C .Answer) (d : ℕ) → Reached C v → Foretold v f r → f ≡ In d → d ≤ L .largest
 
-  -- after m of the k clocks that are forecast, k - m are; what never comes never comes after any run
+  -- running part of the way shortens a forecast by as much; no run makes a forecast of what never happens
   abbrev pub Forecast-keeps : Type 0
   Forecast-keeps =
       (v : C .State) (f g : Forecast) (r s : C .Answer) (k m : ℕ) → C .well v ≡ true → m ≤ k → m ≤ T .longest

@@ -84,8 +84,8 @@ chip =
 abbrev pub clocked : Clocked chip
 clocked = record { rule = clockOf; run = Run; longest = 4294967295 }
 
--- 255 over 1024, just loaded. Well-formed records that no calls reach can be a whole divider higher: 255 with D 1024 and p 1024,
--- which no load and no clock leaves, has its flag set after 262,144 clocks.
+-- a timer just loaded with 255 over 1024. A record out of reach of all calls may need a whole divider more: 255 with D and p 1024 is well
+-- formed, and has its flag set after 262,144 clocks.
 abbrev pub largestForecast : ℕ
 largestForecast = 261121
 
