@@ -86,7 +86,7 @@ bit-not (suc n) (suc k) x h l =
     ∙ bit-not n k (x / 2) (omega arith) (omega (arith, pow-suc 2 n))
     ∙ ap not (sym (bit-suc k x))
 
--- the mask of a number: its bits set, and taken away
+-- the mask of a number: its bits set, and cleared
 pub bit-set : (k m x : ℕ) → bit k (withSet m x) ≡ (bit k x || bit k m)
 unfolding withSet
 bit-set k m x = bit-or k x m

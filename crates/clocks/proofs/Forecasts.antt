@@ -14,7 +14,7 @@ use Rattle.clocks.specs.declared.Forecast.{Forecast}
 use Rattle.clocks.specs.declared.Forecast.the-variants.{Never, In}
 use Rattle.clocks.proofs.Tests.{picked}
 
--- it stands at the number that is forecast, and not before
+-- what is forecast is so at the number, and not before
 pub comes-at : (d : ℕ) → comes (In d) d ≡ true
 comes-at d = le-leb d d (le-refl d)
 
@@ -31,7 +31,7 @@ comes-one (In x) (In y) e =
     let b = leb-true x y (e y ∙ comes-at y) in
     ap In (omega arith)
 
--- a line that a forecast tells of stands first at its number, and never where it says never
+-- a line that a forecast tells of is asserted first at its number, and never where it says never
 module _ (line : ℕ → Bool) (f : Forecast) (told : (k : ℕ) → line k ≡ comes f k) where
   pub told-least : (d : ℕ) → f ≡ In d → (line d ≡ true) × ((j : ℕ) → j < d → line j ≡ false)
   told-least d e =
@@ -59,12 +59,12 @@ pub gate-comes : (y : Bool) (f : Forecast) (k : ℕ) → comes (if y then f else
 gate-comes true f k = sym (and-true (comes f k))
 gate-comes false f k = sym (and-false (comes f k))
 
--- a forecast of what may stand already
+-- a forecast of what may be set already
 pub now-comes : (b : Bool) (f : Forecast) (k : ℕ) → comes (if b then In 0 else f) k ≡ (b || comes f k)
 now-comes true f k = leb·zero k
 now-comes false f k = refl
 
--- what stands already, or comes as forecast
+-- what is set already, or will be as forecast
 pub stood-comes : (b : Bool) (f : Forecast) (k : ℕ) → (comes f k || b) ≡ comes (if b then In 0 else f) k
 stood-comes true f k = or-true (comes f k) ∙ sym (leb·zero k)
 stood-comes false f k = or-false (comes f k)

@@ -41,7 +41,7 @@ one-more e p h = go (decLt (suc (e % p)) p)
         let f : suc (e % p) ≡ p = omega (arith, mod-lt e h) in
         inr (record { full = f; rem = rest ∙ rw (f, mod-self) refl; quo = whole ∙ rw (f, div-self h) (omega arith) })
 
--- The record s stands `top` counts above zero, and each passing of zero leaves it `low` counts above zero:
+-- The record s is `top` counts above zero, and each passing of zero leaves it `low` counts above zero:
 -- `first k` is s at k counts above zero, `again q k` the same after the first passing and q more.
 module _ {S : Type 0} (clock : S → S) (s : S) (top low : ℕ) (first : ℕ → S) (again : ℕ → ℕ → S) where
   pub record Turns : Type 0 where

@@ -11,7 +11,7 @@ pub enum Forecast {
 }
 
 impl Forecast {
-    // The number that stands for never.
+    // The number for never.
     pub const NEVER: u32 = 4294967295;
 
     pub fn number(self) -> u32

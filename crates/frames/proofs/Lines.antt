@@ -35,7 +35,7 @@ pub value-by :
 value-by P c p q r s t =
     by-less P c 48 p (λ h. by-less P c 58 (q h) (λ h. by-less P c 65 (r h) (λ h. by-less P c 71 (s h) t)))
 
--- a character by what is left of it, modulo 256, after 48 or 65 is taken away
+-- a character by what is left of it, modulo 256, once 48 or 65 is subtracted
 module _ (c d : ℕ) (e : (d + 48) % 256 ≡ c) where
   pub digit-is : d < 10 → d ≡ valueOf c
   digit-is p =

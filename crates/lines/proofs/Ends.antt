@@ -25,7 +25,7 @@ end-within (x ∷ s) = go (eqb x 10) (end-within s)
     go true h = omega arith
     go false h = omega arith
 
--- no LF stands before it
+-- no LF is before it
 pub end-quiet : (s : List ℕ) → Quiet (take (endOf s) s)
 unfolding Quiet
 end-quiet [] = tt
@@ -35,7 +35,7 @@ end-quiet (x ∷ s) = go (eqb x 10) refl (end-quiet s)
     go true e q = tt
     go false e q = (e, q)
 
--- and it stands there
+-- and there it is
 pub end-split : (s : List ℕ) → endOf s < length s → s ≡ take (endOf s) s ++ 10 ∷ drop (suc (endOf s)) s
 end-split [] h = absurd (omega arith)
 end-split (x ∷ s) h = go (eqb x 10) refl (end-split s) h

@@ -5,7 +5,7 @@ use mathlib.Core.Logic.{_⊎_}
 use mathlib.Core.List.{List}
 use lib.ListN.{length, take, drop}
 
--- a buffer whose first m bytes are those that stood from `from` on, the rest untouched
+-- a buffer whose first m bytes are those that were at `from` and after it, the rest untouched
 pub record Moved (before now : List ℕ) (from m : ℕ) : Type 0 where
   pub front : take m now ≡ take m (drop from before)
   pub rest : drop m now ≡ drop m before

@@ -1,4 +1,4 @@
--- T1 is a counter that passes zero, in both modes and whatever its mark: n of its clocks, and when its flag stands.
+-- T1 is a counter that passes zero, in both modes and whatever its mark: n of its clocks, and when its flag is set.
 use mathlib.Core.Path.{_≡_, refl, sym, ap, _∙_}
 use mathlib.Core.Bool.{Bool, true, false, _||_, false≢true}
 use Prim.Native.Nat.{ℕ, suc, _+_, _-_, _/_, _%_, _<_, _≤_}
@@ -114,7 +114,7 @@ flag-after-is t =
         go true = refl
         go false = refl
 
--- when the flag stands
+-- when the flag is set
 abbrev pub dueOf : T1 → Forecast
 dueOf t = if t .flag then In 0 else if t .free || t .armed then In (topOf t + 1) else Never
 

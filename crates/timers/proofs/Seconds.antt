@@ -1,4 +1,4 @@
--- T2 is a counter that passes zero, where clocks count: n of its clocks, and when its flag stands.
+-- T2 is a counter that passes zero, where clocks count: n of its clocks, and when its flag is set.
 use mathlib.Core.Path.{_≡_, refl, ap, _∙_}
 use mathlib.Core.Bool.{Bool, true, false, not, _||_, _&&_, and-true, and-false}
 use Prim.Native.Nat.{ℕ, zero, suc, _+_, _-_, _%_, _<_, _≤_}
@@ -70,7 +70,7 @@ module _ (t : T2) (p : t .pulse ≡ false) where
       let e : n - suc (t .counter) ≡ n - t .counter - 1 = omega arith in
       counting n t p ∙ after-past (turns t) n h ∙ ap (λ (k : ℕ). wrapped (65535 - k % 65536) t) e
 
--- when the flag stands, with PB6 still
+-- when the flag is set, with PB6 still
 abbrev pub dueOf : T2 → Forecast
 dueOf t = if t .flag then In 0 else if t .armed && not (t .pulse) then In (t .counter + 1) else Never
 
