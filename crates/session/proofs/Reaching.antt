@@ -75,16 +75,16 @@ number-replied n k l d x = go (eqb n 0) refl
     go true e = told-none k l d x ∙ sym (eqb-true n 0 e)
     go false e = refl
 
--- it is that of the chip's answer
-module _ (P : ℕ → Type 0) (b : Bench) where
+-- it is 2 for what is no frame, and else that of the chip's answer
+module _ (P : Frame → ℕ → Type 0) (b : Bench) where
   says-number :
-      ((n : ℕ) → n ≡ 2 → P n)
-      → ((c : Chip22.chip .Call) → P (answer Chip22.chip c (b .via) .refusal))
-      → ((c : Chip32.chip .Call) → P (answer Chip32.chip c (b .riot) .refusal))
-      → ((c : Chip45.chip .Call) → P (answer Chip45.chip c (b .crtc) .refusal))
-      → (f : Frame) → P (number (stepOf b f .reply))
+      P Unknown 2
+      → ((c : Chip22.chip .Call) → P (To22 c) (answer Chip22.chip c (b .via) .refusal))
+      → ((c : Chip32.chip .Call) → P (To32 c) (answer Chip32.chip c (b .riot) .refusal))
+      → ((c : Chip45.chip .Call) → P (To45 c) (answer Chip45.chip c (b .crtc) .refusal))
+      → (f : Frame) → P f (number (stepOf b f .reply))
   unfolding stepOf number
-  says-number none via riot crtc Unknown = none 2 refl
+  says-number none via riot crtc Unknown = none
   says-number none via riot crtc (To22 c) = rw (number-replied (answer Chip22.chip c (b .via) .refusal) (kind22 c) _ _ _) (via c)
   says-number none via riot crtc (To32 c) = rw (number-replied (answer Chip32.chip c (b .riot) .refusal) (kind32 c) _ _ _) (riot c)
   says-number none via riot crtc (To45 c) = rw (number-replied (answer Chip45.chip c (b .crtc) .refusal) (kind45 c (b .crtc)) _ _ _) (crtc c)
@@ -97,24 +97,21 @@ pub never-1 : Demands.Never-1
 unfolding number
 never-1 ls l e =
     let r = reached ls in
-    says-number (λ n. n ≡ 1 → ⊥) (nextAll powerUp ls)
-    (λ n z q. omega (arith, z, q))
+    says-number (λ f n. n ≡ 1 → ⊥) (nextAll powerUp ls)
+    (λ q. omega (arith, q))
     (λ c. not-1 Chip22.chip Lawful22.lawful _ c (r .via))
     (λ c. not-1 Chip32.chip Lawful32.lawful _ c (r .riot))
     (λ c q. not-1 Chip45.chip Lawful45.lawful _ c (r .crtc) q)
     (frameOf l) (ap number e)
 
--- a reply says 2 only to what is no frame: a chip answers with another number
-two-only : (b : Bench) (f : Frame) → number (stepOf b f .reply) ≡ 2 → f ≡ Unknown
-unfolding stepOf
-two-only b Unknown e = refl
-two-only b (To22 c) e =
-    absurd (answers Chip22.chip Lawful22.lawful .never-2 c (b .via) (sym (number-replied (answer Chip22.chip c (b .via) .refusal) (kind22 c) _ _ _) ∙ e))
-two-only b (To32 c) e =
-    absurd (answers Chip32.chip Lawful32.lawful .never-2 c (b .riot) (sym (number-replied (answer Chip32.chip c (b .riot) .refusal) (kind32 c) _ _ _) ∙ e))
-two-only b (To45 c) e =
-    absurd (answers Chip45.chip Lawful45.lawful .never-2 c (b .crtc) (sym (number-replied (answer Chip45.chip c (b .crtc) .refusal) (kind45 c (b .crtc)) _ _ _) ∙ e))
-
 pub two-exact : Demands.Two-exact
 unfolding stepOf number
-two-exact b l = (λ e. two-only b (frameOf l) (ap number e), λ e. ap (λ (f : Frame). stepOf b f .reply) e)
+two-exact b l = (
+  λ e. says-number (λ f n. n ≡ 2 → f ≡ Unknown) b
+      (λ q. refl)
+      (λ c q. absurd (answers Chip22.chip Lawful22.lawful .never-2 c (b .via) q))
+      (λ c q. absurd (answers Chip32.chip Lawful32.lawful .never-2 c (b .riot) q))
+      (λ c q. absurd (answers Chip45.chip Lawful45.lawful .never-2 c (b .crtc) q))
+      (frameOf l) (ap number e),
+  λ e. ap (λ (f : Frame). stepOf b f .reply) e,
+)

@@ -19,7 +19,7 @@ use Rattle.riot6532.specs.declared.IoAnswer.{IoAnswer}
 use Rattle.crtc6545.specs.Chip.{readingOf}
 use Rattle.crtc6545.specs.declared.Crtc.{Crtc}
 use Rattle.session.specs.Steps.{Kind, nothing, a-byte, told, replied, lineOf, lines45, kind32, forecast32, stepOf}
-use Rattle.session.specs.Core.{joined, done32, data32, shown45, data45, After, after45, stepped}
+use Rattle.session.specs.Core.{joined, shown45, data45, After, after45, stepped}
 use Rattle.session.specs.declared.Core.{Core}
 use Rattle.session.specs.declared.After32.{After32}
 
@@ -39,18 +39,11 @@ module _ (before now : List ℕ) (io : Io) (c : Call32) (a : IoAnswer) (e : whol
   abbrev tells : Kind → Answer32.Answer → Reply
   tells k r = replied (r .refusal) (told k (lineOf (r .irq)) (r .«data») (forecast32 (beside before io)))
 
-  pub done-after : kind32 c ≡ nothing → After before now io c (done32 a)
-  done-after k =
+  pub after-told : (k : Kind) → kind32 c ≡ k → After before now io c (record { io = a .io; reply = tells k (whole now a) })
+  after-told k q =
       record {
         riot = ap (λ (r : Answer32.Answer). r .riot) e;
-        reply = ap (tells nothing) e ∙ ap (λ (j : Kind). tells j (answer Chip32.chip c (beside before io))) (sym k);
-      }
-
-  pub data-after : kind32 c ≡ a-byte → After before now io c (data32 a)
-  data-after k =
-      record {
-        riot = ap (λ (r : Answer32.Answer). r .riot) e;
-        reply = ap (tells a-byte) e ∙ ap (λ (j : Kind). tells j (answer Chip32.chip c (beside before io))) (sym k);
+        reply = ap (tells k) e ∙ ap (λ (j : Kind). tells j (answer Chip32.chip c (beside before io))) (sym q);
       }
 
 -- the 6532 moved within the bench

@@ -105,18 +105,25 @@ impl Core {
         self.step(ram, frames::decode(line))
     }
 
-    fn fed(self, ram: [u8; 128], used: usize, made: usize) -> Fed
-        ensures { λ r. ⌜ r ≡ record { bench = joined ram self; used = used; made = made } ⌝ }
+    // The bench that the core and the RAM are.
+    fn bench(self, ram: [u8; 128]) -> Bench
+        ensures { λ r. ⌜ r ≡ joined ram self ⌝ }
     {
         let via = self.via;
         let io = self.io;
         let crtc = self.crtc;
+        Bench {
+            via,
+            riot: Riot { ram, io },
+            crtc,
+        }
+    }
+
+    fn fed(self, ram: [u8; 128], used: usize, made: usize) -> Fed
+        ensures { λ r. ⌜ r ≡ record { bench = joined ram self; used = used; made = made } ⌝ }
+    {
         Fed {
-            bench: Bench {
-                via,
-                riot: Riot { ram, io },
-                crtc,
-            },
+            bench: self.bench(ram),
             used,
             made,
         }
@@ -153,9 +160,10 @@ impl Bench {
         let after = core.answered(&mut ram, line);
         let left = after.core;
         let reply = after.reply;
-        let fed = left.fed(ram, 0, 0);
-        let bench = fed.bench;
-        Stepped { bench, reply }
+        Stepped {
+            bench: left.bench(ram),
+            reply,
+        }
     }
 
     // As many lines as there is room for the answers of, 13 bytes each: those that an LF ends, or all of the input as one. Both come

@@ -1,23 +1,24 @@
 use borrow.Author.Needs.{needs}
 use mathlib.Core.Path.{refl}
-use Rattle.session.proofs.Told.{done-after, data-after}
+use Rattle.session.specs.Steps.{nothing, a-byte}
+use Rattle.session.proofs.Told.{after-told}
 use Rattle.session.proofs.calling.on32.Statement.{statement}
 use Rattle.session.proofs.calling.on32.Tie as tie
 
 returns : tie.Need-returns
-returns c = rw (c .before .before .enum-told .given .1, c .done32 .ensures) (done-after _ _ _ _ _ (c .before .reset .ensures _) refl)
+returns c = rw (c .before .before .enum-told .given .1, c .done32 .ensures) (after-told _ _ _ _ _ (c .before .reset .ensures _) nothing refl)
 
 returns-2 : tie.Need-returns-2
-returns-2 c = rw (c .before .before .before .before .call .given .1, c .done322 .ensures) (done-after _ _ _ _ _ (c .before .write .ensures) refl)
+returns-2 c = rw (c .before .before .before .before .call .given .1, c .done322 .ensures) (after-told _ _ _ _ _ (c .before .write .ensures) nothing refl)
 
 returns-3 : tie.Need-returns-3
-returns-3 c = rw (c .before .before .before .before .call2 .given .1, c .data32 .ensures) (data-after _ _ _ _ _ (c .before .read .ensures) refl)
+returns-3 c = rw (c .before .before .before .before .call2 .given .1, c .data32 .ensures) (after-told _ _ _ _ _ (c .before .read .ensures) a-byte refl)
 
 returns-4 : tie.Need-returns-4
-returns-4 c = rw (c .before .before .before .call3 .given .1, c .done323 .ensures) (done-after _ _ _ _ _ (c .before .pins .ensures _) refl)
+returns-4 c = rw (c .before .before .before .call3 .given .1, c .done323 .ensures) (after-told _ _ _ _ _ (c .before .pins .ensures _) nothing refl)
 
 returns-5 : tie.Need-returns-5
-returns-5 c = rw (c .before .before .before .call4 .given .1, c .done324 .ensures) (done-after _ _ _ _ _ (c .before .run .ensures _) refl)
+returns-5 c = rw (c .before .before .before .call4 .given .1, c .done324 .ensures) (after-told _ _ _ _ _ (c .before .run .ensures _) nothing refl)
 
 returns-6 : tie.Need-returns-6
 returns-6 c = rw (c .before .enum-told2 .given .1) (c .foreseen32 .ensures _)
