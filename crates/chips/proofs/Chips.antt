@@ -149,10 +149,7 @@ module _ (C : Chip) (S : Lawful C) where
         reached-well = reached-well;
       }
 
-  -- what a call leaves of a record that is well formed, and of one that is not
-  pub accepted-leaves : (c : C .Call) (v : C .State) → C .well v ≡ true → C .asks c v ≡ 0 → next C c v ≡ C .leaves c v
-  accepted-leaves c v w z = ap (C .left) (accepts-well c v w z) ∙ S .left-accepted (C .gives c v) (C .leaves c v)
-
+  -- an ill-formed record comes back from every call
   pub ill-leaves : (c : C .Call) (v : C .State) → C .well v ≡ false → next C c v ≡ v
   ill-leaves c v w = ap (C .left) (refuses-ill c v w) ∙ S .left-refused 1 v
 

@@ -59,11 +59,6 @@ pub gate-comes : (y : Bool) (f : Forecast) (k : ℕ) → comes (if y then f else
 gate-comes true f k = sym (and-true (comes f k))
 gate-comes false f k = sym (and-false (comes f k))
 
--- a forecast of what may be set already
-pub now-comes : (b : Bool) (f : Forecast) (k : ℕ) → comes (if b then In 0 else f) k ≡ (b || comes f k)
-now-comes true f k = leb·zero k
-now-comes false f k = refl
-
 -- what is set already, or will be as forecast
 pub stood-comes : (b : Bool) (f : Forecast) (k : ℕ) → (comes f k || b) ≡ comes (if b then In 0 else f) k
 stood-comes true f k = or-true (comes f k) ∙ sym (leb·zero k)
