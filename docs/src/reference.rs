@@ -369,9 +369,9 @@ impl Chip6522 {
 
     fn pass_zero_t1(&mut self) {
         self.t1_counter = 0xFFFF;
+        self.reload_mark = true;
         if self.acr_has(acr::FREE_RUN) {
             self.ifr |= flag::T1;
-            self.reload_mark = true;
             self.timer_level = !self.timer_level;
         } else if self.t1_armed {
             self.ifr |= flag::T1;
@@ -409,36 +409,35 @@ impl Chip6522 {
         }
     }
 
-    fn run_t1(&mut self, mut clocks: u32) {
-        if clocks == 0 {
-            return;
-        }
+    /// Clocks until T1 next passes zero: what is left to count and the passing
+    /// itself, and a reload before them if the mark is set.
+    fn t1_due(&self) -> u32 {
         if self.reload_mark {
+            u32::from(self.t1_latch) + 2
+        } else {
+            u32::from(self.t1_counter) + 1
+        }
+    }
+
+    fn run_t1(&mut self, mut clocks: u32) {
+        if clocks >= self.t1_due() {
+            clocks -= self.t1_due();
+            self.pass_zero_t1();
+            // The mark is set, so a whole period is due. A one-shot is disarmed
+            // by now and free-run's flag is set: of the passings still to come
+            // only free-run's level tells.
+            let period = self.t1_due();
+            if self.acr_has(acr::FREE_RUN) && clocks / period % 2 == 1 {
+                self.timer_level = !self.timer_level;
+            }
+            clocks %= period;
+        }
+        // The rest comes to no passing.
+        if self.reload_mark && clocks > 0 {
             self.clock_t1();
             clocks -= 1;
         }
-        if clocks <= u32::from(self.t1_counter) {
-            self.t1_counter -= clocks as u16;
-            return;
-        }
-        clocks -= u32::from(self.t1_counter) + 1;
-        self.pass_zero_t1();
-        if self.acr_has(acr::FREE_RUN) {
-            // One clock to reload, latch to reach zero, one to pass it. The
-            // flag stands already; of whole periods only the level tells.
-            let period = u32::from(self.t1_latch) + 2;
-            if clocks / period % 2 == 1 {
-                self.timer_level = !self.timer_level;
-            }
-            let over = clocks % period;
-            if over > 0 {
-                self.reload_mark = false;
-                self.t1_counter = self.t1_latch - (over - 1) as u16;
-            }
-        } else {
-            // Disarmed by now, so further passings leave no trace.
-            self.t1_counter = self.t1_counter.wrapping_sub(clocks as u16);
-        }
+        self.t1_counter -= clocks as u16;
     }
 
     fn run_t2(&mut self, clocks: u32) {
@@ -457,15 +456,10 @@ impl Chip6522 {
         // An enabled flag is clear here, or the line would be asserted.
         let t1 = self.ier & flag::T1 != 0 && (self.acr_has(acr::FREE_RUN) || self.t1_armed);
         let t2 = self.ier & flag::T2 != 0 && self.t2_armed && !self.acr_has(acr::T2_PULSES);
-        let t1_clocks = if self.reload_mark {
-            u32::from(self.t1_latch) + 2
-        } else {
-            u32::from(self.t1_counter) + 1
-        };
         let t2_clocks = u32::from(self.t2_counter) + 1;
         match (t1, t2) {
-            (true, true) => Some(t1_clocks.min(t2_clocks)),
-            (true, false) => Some(t1_clocks),
+            (true, true) => Some(self.t1_due().min(t2_clocks)),
+            (true, false) => Some(self.t1_due()),
             (false, true) => Some(t2_clocks),
             (false, false) => None,
         }

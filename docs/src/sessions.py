@@ -126,6 +126,24 @@ class Story22(Story):
             self.acr = value
         return self.write(11, value)
 
+    def t1_period(self):
+        """One clock for the reload, the latch, one for the passing; in one-shot too."""
+        return self.latch + 2
+
+    def set_latch(self, value):
+        # A whole period to go: the mark is set, and the reload takes the new latch.
+        marked = self.t1_due == self.t1_period()
+        self.latch = value
+        if marked:
+            self.t1_due = self.t1_period()
+
+    def reset(self):
+        # T1 goes on from where it stands, which is 65,535 if it had a mark to lose.
+        if self.t1_due == self.t1_period():
+            self.t1_due = 65536
+        self.acr = 0
+        return super().reset()
+
     def load_t1(self, value):
         self.latch = value
         self.t1_due = value + 1
@@ -141,15 +159,13 @@ class Story22(Story):
         if clocks < self.t1_due:
             self.t1_due -= clocks
         else:
-            period = self.latch + 2 if self.acr & 0x40 else 65536
-            self.t1_due = period - (clocks - self.t1_due) % period
+            self.t1_due = self.t1_period() - (clocks - self.t1_due) % self.t1_period()
         if not self.acr & 0x20:
             self.t2_due = (self.t2_due - 1 - clocks) % 65536 + 1
         return self.run_line(clocks)
 
     def aimed_run(self, due):
         rng = self.rng
-        period = self.latch + 2
         kind = rng.random()
         if kind < 0.34:
             return self.run(due + rng.choice((-2, -1, -1, 0, 0, 0, 1, 1, 2)))
@@ -157,7 +173,7 @@ class Story22(Story):
             return self.run(rng.choice((0, 1, 1, 1, 1, 2, 3)))
         if kind < 0.76:
             times = rng.choice((1, 1, 2, 2, 3, 4, 5, rng.randrange(1, 60)))
-            return self.run(times * period + rng.choice((-1, 0, 0, 1, due, due - 1)))
+            return self.run(times * self.t1_period() + rng.choice((-1, 0, 0, 1, due, due - 1)))
         if kind < 0.84:
             return self.run(65536 * rng.randrange(1, 4) + rng.choice((-1, 0, 1, due, due - 1)))
         if kind < 0.92:
@@ -256,10 +272,9 @@ class Story22(Story):
     def t1_phase(self):
         rng = self.rng
         if self.chance(10):
-            self.acr = 0
             yield self.reset()
         if self.chance(90):
-            yield self.set_acr(rng.choice((0x40, 0x40, 0xC0, 0xC0, 0x00, 0x80, rng.randrange(256) & 0xE3)))
+            yield self.set_acr(rng.choice((0x40, 0xC0, 0xC0, 0x00, 0x80, 0x80, rng.randrange(256) & 0xE3)))
         yield from self.enables()
         if self.chance(30):
             yield self.write(2, self.byte())
@@ -269,6 +284,7 @@ class Story22(Story):
                 (46, self.t1_run), (14, self.t1_look), (9, self.t1_read_4), (6, self.t1_pb7),
                 (7, self.t1_latch), (4, self.t1_switch), (3, self.t1_again), (4, self.t1_clear),
                 (2, self.t1_enables), (1, self.t1_reset), (2, self.t1_refused), (2, self.t1_store),
+                (4, self.t1_watch),
             ))()
 
     def t1_run(self):
@@ -295,10 +311,10 @@ class Story22(Story):
         if self.chance(50):
             yield self.run(self.t1_due)
         if self.chance(75):
-            self.latch = self.latch & 0xFF00 | value & 255
+            self.set_latch(self.latch & 0xFF00 | value & 255)
             yield self.write(rng.choice((4, 6)), value)
         if self.chance(60):
-            self.latch = self.latch & 255 | value & 0xFF00
+            self.set_latch(self.latch & 255 | value & 0xFF00)
             yield self.write(7, value >> 8)
         if self.chance(50):
             yield self.forecast()
@@ -331,17 +347,55 @@ class Story22(Story):
     def t1_reset(self):
         if self.chance(60):
             yield self.run(self.t1_due)
-        self.acr = 0
         yield self.reset()
         yield self.write(14, 0xE0)
         if self.chance(70):
-            yield self.set_acr(0x40)
+            yield self.set_acr(self.rng.choice((0x40, 0x80, 0xC0)))
 
     def t1_refused(self):
         yield self.refused()
 
     def t1_store(self):
         yield self.write(self.rng.choice((0, 1, 2, 3, 10, 15)), self.byte())
+
+    def t1_watch(self):
+        """A few passings on end, most of them in one-shot, and calls between passing and reload."""
+        rng = self.rng
+        if self.chance(60):
+            yield self.set_acr(self.acr & 0x23 | rng.choice((0x00, 0x80, 0x80, 0xC0, 0xC0)))
+        if self.chance(50):
+            yield from self.load_t1(draw(rng, ((70, rng.randrange(5)), (30, self.count()))))
+        elif self.chance(40):
+            yield from self.t1_low()
+        for _ in range(rng.randrange(2, 6)):
+            if self.chance(30):
+                yield self.run(self.t1_due - 1)
+                yield self.t1_show()
+            yield self.run(self.t1_due)
+            if self.chance(60):
+                yield self.t1_show()
+            # The mark is set now: what is done here comes before the reload.
+            if self.chance(60):
+                yield from draw(rng, (
+                    (26, self.t1_latch), (26, self.t1_switch), (14, self.t1_again), (9, self.t1_reset),
+                    (9, self.t1_clear), (8, self.t1_enables), (8, self.t1_look),
+                ))()
+            if self.chance(50):
+                yield self.run(1)
+                yield self.t1_show()
+
+    def t1_low(self):
+        """Disarmed in one-shot, then PB7 inverted in free-run: further one-shot passings leave it low."""
+        yield from self.load_t1(self.rng.randrange(5))
+        for mode in (0x80, 0xC0):
+            yield self.set_acr(mode)
+            yield self.run(self.t1_due)
+        yield self.set_acr(0x80)
+
+    def t1_show(self):
+        """What of T1 can be seen: its counter, its flag, PB7, and when the flag is due."""
+        return draw(self.rng, ((25, self.read(0)), (25, self.read(4)), (20, self.read(5)), (15, self.read(13)),
+                               (15, self.forecast())))
 
     def t2_phase(self):
         rng = self.rng
@@ -375,7 +429,6 @@ class Story22(Story):
             elif kind < 0.96:
                 yield self.write(14, self.byte())
             elif kind < 0.97:
-                self.acr = 0
                 yield self.reset()
                 yield self.write(14, 0xA0)
             else:
@@ -484,7 +537,6 @@ class Story22(Story):
         yield self.run(self.rng.randrange(8))
 
     def edge_reset(self):
-        self.acr = 0
         yield self.reset()
         yield self.set_acr(3)
 
@@ -517,7 +569,6 @@ class Story22(Story):
             elif kind < 0.97:
                 yield self.forecast()
             elif kind < 0.98:
-                self.acr = 0
                 yield self.reset()
             else:
                 yield self.refused()

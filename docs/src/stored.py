@@ -248,13 +248,14 @@ def runs_too_long():
 # -------------------------------------------------------- easy to get wrong
 
 def easy_to_get_wrong():
-    # A free-run period is the latch and two more clocks.
-    for latch in (0, 1, 2, 7):
-        yield from clean_via(acr=0xC0)
-        yield from load_t1(latch)
-        for _ in range(4):
-            yield from (forecast(VIA), run(VIA, latch), run(VIA, 1), read(VIA, PORT_B), run(VIA, 1),
-                        read(VIA, PORT_B), read(VIA, T1_LOW))
+    # T1's period is the latch and two more clocks, in free-run and in one-shot.
+    for acr in (0xC0, 0x80):
+        for latch in (0, 1, 2, 7):
+            yield from clean_via(acr=acr)
+            yield from load_t1(latch)
+            for _ in range(4):
+                yield from (forecast(VIA), run(VIA, latch), run(VIA, 1), read(VIA, PORT_B), run(VIA, 1),
+                            read(VIA, PORT_B), read(VIA, T1_LOW))
     # A read of register 5 leaves the flag; only one of register 4 clears it.
     yield from clean_via()
     yield from (*load_t1(2), run(VIA, 3), *reads(VIA, T1_HIGH, IFR, LATCH_LOW, LATCH_HIGH, IFR, T1_LOW, IFR))
@@ -387,28 +388,51 @@ def via_port_flags():
 
 
 def via_timers():
-    # T1, clock by clock around its passing, in one-shot and free-run, PB7 shown.
+    # T1, clock by clock through three passings and a reload, in one-shot and free-run: PB7, counter, flag. The read of
+    # its low byte clears the flag, which a one-shot doesn't set again.
     for acr in (0x80, 0xC0):
         for value in (0, 1, 3):
             yield from clean_via(acr=acr)
             yield from load_t1(value)
-            yield from clocks(VIA, 2 * value + 6, *reads(VIA, PORT_B, T1_HIGH, IFR))
-            yield from (read(VIA, T1_LOW), run(VIA, 65535), *reads(VIA, T1_HIGH, IFR), run(VIA, 2),
+            yield from clocks(VIA, 3 * value + 7, *reads(VIA, PORT_B, T1_HIGH, IFR, T1_LOW))
+            yield from (forecast(VIA), run(VIA, 65535), *reads(VIA, T1_HIGH, IFR), run(VIA, 2),
                         *reads(VIA, PORT_B, IFR, T1_LOW))
     # A latch written while the counter is on its way, and while the mark waits for the reload.
-    yield from clean_via(acr=0xC0)
-    yield from (*load_t1(4), run(VIA, 2), write(VIA, LATCH_LOW, 9), write(VIA, LATCH_HIGH, 1), forecast(VIA), run(VIA, 3),
-                write(VIA, T1_LOW, 2), write(VIA, LATCH_HIGH, 0), forecast(VIA), run(VIA, 1), read(VIA, T1_LOW),
-                forecast(VIA), run(VIA, 3), read(VIA, IFR))
-    # The mark reloads in one-shot too; a load or a reset takes it away.
-    for change in ([write(VIA, ACR, 0x80)], load_t1(7), [reset(VIA)]):
-        yield from clean_via(acr=0xC0)
-        yield from (*load_t1(5), run(VIA, 6), read(VIA, IFR), *change, forecast(VIA), run(VIA, 1),
-                    *reads(VIA, T1_LOW, T1_HIGH), run(VIA, 7), *reads(VIA, IFR, PORT_B), *look_via())
+    for acr in (0xC0, 0x80):
+        yield from clean_via(acr=acr)
+        yield from (*load_t1(4), run(VIA, 2), write(VIA, LATCH_LOW, 9), write(VIA, LATCH_HIGH, 1), forecast(VIA),
+                    run(VIA, 3), write(VIA, T1_LOW, 2), write(VIA, LATCH_HIGH, 0), forecast(VIA), run(VIA, 1),
+                    *reads(VIA, T1_HIGH, T1_LOW), forecast(VIA), run(VIA, 3), read(VIA, IFR), run(VIA, 1),
+                    *reads(VIA, T1_HIGH, T1_LOW))
+    # While the mark is set: the other mode leaves it, a load or a reset takes it away.
+    for acr in (0xC0, 0x80):
+        for change in ([write(VIA, ACR, acr ^ 0x40)], load_t1(7), [reset(VIA)]):
+            yield from clean_via(acr=acr)
+            yield from (*load_t1(5), run(VIA, 6), read(VIA, IFR), *change, forecast(VIA), run(VIA, 1),
+                        *reads(VIA, T1_LOW, T1_HIGH))
+            for _ in range(3):
+                yield from (run(VIA, 7), *reads(VIA, IFR, PORT_B, T1_HIGH, T1_LOW))
+            yield from look_via()
+    # Every other call leaves it too, so the next clock takes the latch.
+    yield from clean_via(acr=0x80)
+    for call in (*(read(VIA, register) for register in range(16)),
+                 *(write(VIA, register, 3) for register in range(16) if register != T1_HIGH),
+                 write(VIA, ACR, 0x44), pins(VIA, 0, 0, 0), run(VIA, 0), forecast(VIA)):
+        yield from (*load_t1(0x102), run(VIA, 0x103), call, *reads(VIA, T1_HIGH, T1_LOW), run(VIA, 1),
+                    *reads(VIA, T1_HIGH, T1_LOW))
     # One-shot: disarmed after its passing, armed by a load alone; free-run needs no arming.
     yield from clean_via()
     yield from (*load_t1(1), run(VIA, 2), write(VIA, IFR, 0x7F), forecast(VIA), write(VIA, LATCH_HIGH, 0), forecast(VIA),
                 run(VIA, 65536), read(VIA, IFR), write(VIA, ACR, 0x40), forecast(VIA), run(VIA, 65536), read(VIA, IFR))
+    # Disarmed, with PB7 high, and low from a free-run passing: no run, short or long, sets the flag or moves PB7.
+    for low in (False, True):
+        yield from clean_via(acr=0x80)
+        yield from (*load_t1(2), run(VIA, 3))
+        if low:
+            yield from (write(VIA, ACR, 0xC0), run(VIA, 4), write(VIA, ACR, 0x80))
+        yield from (write(VIA, IFR, 0x7F), forecast(VIA))
+        for count in (1, 2, 3, 4, 4_000, 65_536, 1_000_003):
+            yield from (run(VIA, count), forecast(VIA), *reads(VIA, PORT_B, IFR, T1_HIGH, T1_LOW))
     # T2 by clocks: its low latch, a load, its flag; by pulses: PB6 alone, whatever its direction.
     yield from clean_via()
     yield from (write(VIA, T2_LOW, 3), read(VIA, T2_LOW), write(VIA, T2_HIGH, 1), *reads(VIA, T2_HIGH, T2_LOW),
@@ -569,10 +593,11 @@ def crtc_pen():
 # ---------------------------------------------------------- runs and the rest
 
 def longest_runs():
-    """T1 in free-run, T2, and a 6532 timer, each over 4,294,967,295 clocks; the 6545 has its own limit."""
-    yield from clean_via(acr=0xC0)
-    yield from (*load_t1(0x5BA7), *load_t2(0x2211), run(VIA, LONGEST), *reads(VIA, PORT_B, T1_HIGH, T2_HIGH, IFR, T1_LOW,
-                                                                          T2_LOW), *look_via())
+    """T1 in both modes, T2, and a 6532 timer, each over 4,294,967,295 clocks; the 6545 has its own limit."""
+    for acr in (0x80, 0xC0):
+        yield from clean_via(acr=acr)
+        yield from (*load_t1(0x5BA7), *load_t2(0x2211), run(VIA, LONGEST),
+                    *reads(VIA, PORT_B, T1_HIGH, T2_HIGH, IFR, T1_LOW, T2_LOW), *look_via())
     yield from (load_timer(3, 200, True), run(RIOT, LONGEST), forecast(RIOT), read(RIOT, FLAGS), read(RIOT, TIMER))
     yield from (run(CRTC, 0xFFFF), read(CRTC, 0), run(CRTC, 0x10000), run(CRTC, LONGEST), read(CRTC, 0))
     for chip, most in ((VIA, 1 << 20), (RIOT, 1 << 20), (CRTC, 1 << 15)):

@@ -14,79 +14,69 @@ use Rattle.clocks.proofs.Tests.{picked}
 use Rattle.clocks.proofs.Turns.{Turns, after-short, after-past, flag-after}
 use Rattle.clocks.proofs.Forecasts.{stood-comes, AtMost, most-gated}
 use Rattle.timers.specs.First.{at, passed, clocked}
-use Rattle.timers.specs.Closed.{topOf, lowOf, turned, fallen}
+use Rattle.timers.specs.Closed.{topOf, periodOf, turned, fallen}
 use Rattle.timers.specs.declared.T1.{T1}
 
--- the timer with the mark m
-module _ (c l : ℕ) (a v f free : Bool) where
-  abbrev timer : Bool → T1
-  timer m = record { counter = c; latch = l; armed = a; mark = m; level = v; flag = f; free = free }
+-- a clock goes by how many counts the timer is above zero
+by-top : (t : T1) → clocked t ≡ (if eqb (topOf t) 0 then passed t else at (topOf t - 1) t)
+unfolding clocked
+by-top t = go (t .mark)
+  where
+    go :
+        (m : Bool)
+        → (if m then at (t .latch) t else if eqb (t .counter) 0 then passed t else at (t .counter - 1) t)
+        ≡ (if eqb (if m then t .latch + 1 else t .counter) 0 then passed t else at ((if m then t .latch + 1 else t .counter) - 1) t)
+    go true = rw (ne-eqb (t .latch + 1) 0 (omega arith)) (ap (λ (x : ℕ). at x t) (omega arith))
+    go false = refl
 
-  -- one clock at k counts above zero, by whether that is where it starts
-  at-falls : (m : Bool) (k : ℕ) → clocked (at (suc k) (timer m)) ≡ at k (timer m)
-  unfolding clocked
-  at-falls m k = simp eqb·suc-zero (ap (λ (x : ℕ). at x (timer m)) (omega arith))
-
-  start-falls : (m : Bool) (k : ℕ) → suc k ≡ topOf (timer m) → clocked (timer m) ≡ at k (timer m)
-  unfolding clocked
-  start-falls true k e = ap (λ (x : ℕ). at x (timer true)) (omega arith)
-  start-falls false k e = rw (ne-eqb c 0 (omega arith)) (ap (λ (x : ℕ). at x (timer false)) (omega arith))
-
-  start-passes : (m : Bool) → 0 ≡ topOf (timer m) → clocked (timer m) ≡ passed (timer m)
-  unfolding clocked
-  start-passes true e = absurd (omega arith)
-  start-passes false e = rw (eq-eqb c 0 (omega arith))
-
-  falls : (m : Bool) (k : ℕ) → k < topOf (timer m) → clocked (fallen (suc k) (timer m)) ≡ fallen k (timer m)
-  falls m k h = go (ℕ-discrete (suc k) (topOf (timer m)))
+module _ (t : T1) where
+  top-fallen : (k : ℕ) → topOf (fallen k t) ≡ k
+  top-fallen k = go (ℕ-discrete k (topOf t))
     where
-      not-top : eqb k (topOf (timer m)) ≡ false
-      not-top = ne-eqb k (topOf (timer m)) (omega arith)
+      go : Dec (k ≡ topOf t) → topOf (fallen k t) ≡ k
+      go (yes e) = rw (eq-eqb k (topOf t) e) (sym e)
+      go (no e) = rw (ne-eqb k (topOf t) e)
 
-      go : Dec (suc k ≡ topOf (timer m)) → clocked (fallen (suc k) (timer m)) ≡ fallen k (timer m)
-      go (yes e) = rw (eq-eqb (suc k) (topOf (timer m)) e, not-top) (start-falls m k e)
-      go (no e) = rw (ne-eqb (suc k) (topOf (timer m)) e, not-top) (at-falls m k)
-
-  passes : (m : Bool) → clocked (fallen 0 (timer m)) ≡ passed (timer m)
-  unfolding clocked
-  passes m = go (ℕ-discrete 0 (topOf (timer m)))
+  falls : (k : ℕ) → k < topOf t → clocked (fallen (suc k) t) ≡ fallen k t
+  falls k h =
+      by-top (fallen (suc k) t)
+      ∙ rw (top-fallen (suc k), eqb·suc-zero k, ne-eqb k (topOf t) (omega arith))
+      (picked (λ (u : T1). at (suc k - 1) u ≡ at k t) (eqb (suc k) (topOf t)) down down)
     where
-      go : Dec (0 ≡ topOf (timer m)) → clocked (fallen 0 (timer m)) ≡ passed (timer m)
-      go (yes e) = rw (eq-eqb 0 (topOf (timer m)) e) (start-passes m e)
-      go (no e) = rw (ne-eqb 0 (topOf (timer m)) e)
+      down : at (suc k - 1) t ≡ at k t
+      down = ap (λ (x : ℕ). at x t) (omega arith)
 
-  -- a passing puts it where it then starts from
-  starts : (q : ℕ) (m : Bool) → fallen (lowOf (timer m)) (turned q (timer m)) ≡ turned q (timer m)
-  starts q m = rw (eq-eqb (lowOf (timer m)) (lowOf (timer m)) refl)
+  passes : clocked (fallen 0 t) ≡ passed t
+  passes = by-top (fallen 0 t) ∙ rw (top-fallen 0) (picked (λ (u : T1). passed u ≡ passed t) (eqb 0 (topOf t)) refl refl)
+
+-- the timer in the mode r, armed as a says
+abbrev in-mode : Bool → Bool → T1 → T1
+in-mode r a t =
+    record { counter = t .counter; latch = t .latch; armed = a; mark = t .mark; level = t .level; flag = t .flag; free = r }
 
 again : (q : ℕ) (t : T1) → passed (turned q t) ≡ turned (suc q) t
 unfolding after
 again q t = go (t .free) (t .armed)
   where
-    go : (r a : Bool) →
-        passed (turned q (timer (t .counter) (t .latch) a (t .level) (t .flag) r (t .mark)))
-        ≡ turned (suc q) (timer (t .counter) (t .latch) a (t .level) (t .flag) r (t .mark))
+    go : (r a : Bool) → passed (turned q (in-mode r a t)) ≡ turned (suc q) (in-mode r a t)
     go true a = refl
     go false true = refl
     go false false = refl
 
-pub turns : (t : T1) → Turns clocked t (topOf t) (lowOf t) (λ k. fallen k t) (λ q k. fallen k (turned q t))
+pub turns : (t : T1) → Turns clocked t (topOf t) (t .latch + 1) (λ k. fallen k t) (λ q k. fallen k (turned q t))
 unfolding after
 turns t =
     record {
       start = rw (eq-eqb (topOf t) (topOf t) refl);
-      counts = λ k. falls (t .counter) (t .latch) (t .armed) (t .level) (t .flag) (t .free) (t .mark) k;
-      passes =
-          passes (t .counter) (t .latch) (t .armed) (t .level) (t .flag) (t .free) (t .mark) ∙ sym (lands 0);
-      counts-on = λ q k. falls 65535 (t .latch) (turned q t .armed) (turned q t .level) (turned q t .flag) (t .free) (t .free) k;
-      passes-again = λ q.
-          passes 65535 (t .latch) (turned q t .armed) (turned q t .level) (turned q t .flag) (t .free) (t .free)
-          ∙ again q t
-          ∙ sym (lands (suc q));
+      counts = falls t;
+      passes = passes t ∙ sym (lands 0);
+      counts-on = λ q. falls (turned q t);
+      passes-again = λ q. passes (turned q t) ∙ again q t ∙ sym (lands (suc q));
     }
   where
-    lands : (q : ℕ) → fallen (lowOf t) (turned q t) ≡ turned q t
-    lands q = starts (t .counter) (t .latch) (t .armed) (t .level) (t .flag) (t .free) q (t .mark)
+    -- a passing puts it where it then starts from
+    lands : (q : ℕ) → fallen (t .latch + 1) (turned q t) ≡ turned q t
+    lands q = rw (eq-eqb (t .latch + 1) (t .latch + 1) refl)
 
 -- n clocks, short of the passing of zero and past it
 pub ran-short : (t : T1) (n : ℕ) → n ≤ topOf t → after n clocked t ≡ fallen (topOf t - n) t
@@ -95,11 +85,12 @@ ran-short t n h = after-short (turns t) n h
 pub ran-past :
     (t : T1) (n : ℕ) → topOf t < n
     → after n clocked t
-    ≡ fallen (lowOf t - (n - topOf t - 1) % (lowOf t + 1)) (turned ((n - topOf t - 1) / (lowOf t + 1)) t)
+    ≡ fallen (periodOf t - 1 - (n - topOf t - 1) % periodOf t) (turned ((n - topOf t - 1) / periodOf t) t)
 ran-past t n h =
     let e : n - suc (topOf t) ≡ n - topOf t - 1 = omega arith in
-    let p : suc (lowOf t) ≡ lowOf t + 1 = omega arith in
-    after-past (turns t) n h ∙ (λ i. fallen (lowOf t - e i % p i) (turned (e i / p i) t))
+    let p : suc (t .latch + 1) ≡ periodOf t = omega arith in
+    let l : t .latch + 1 ≡ periodOf t - 1 = omega arith in
+    after-past (turns t) n h ∙ (λ i. fallen (l i - e i % p i) (turned (e i / p i) t))
 
 -- T1's flag, any number of clocks ahead
 flag-after-is :

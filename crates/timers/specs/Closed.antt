@@ -1,5 +1,5 @@
 -- What the code computes in place of single clocks. No promise of a public function rests on it: proofs/ shows that the clocks lead there.
-use mathlib.Core.Bool.{not, _||_, _&&_}
+use mathlib.Core.Bool.{true, not, _||_, _&&_}
 use Prim.Native.Nat.{ℕ, suc, _+_}
 use lib.Dec.{eqb}
 use Rattle.clocks.specs.Clocks.{if_then_else_, after}
@@ -10,9 +10,9 @@ use Rattle.timers.specs.declared.T1.{T1}
 abbrev pub topOf : T1 → ℕ
 topOf t = if t .mark then t .latch + 1 else t .counter
 
--- and how many each passing leaves it, its period less one
-abbrev pub lowOf : T1 → ℕ
-lowOf t = if t .free then t .latch + 1 else 65535
+-- T1 passes zero every so many clocks, in either mode: one for the reload, the latch's count, and one for the passing
+abbrev pub periodOf : T1 → ℕ
+periodOf t = t .latch + 2
 
 -- T1 after a passing of zero and q more
 abbrev pub turned : ℕ → T1 → T1
@@ -21,7 +21,7 @@ turned q t =
       counter = 65535;
       latch = t .latch;
       armed = t .free && t .armed;
-      mark = t .free;
+      mark = true;
       level = if t .free then after (suc q) not (t .level) else t .armed || t .level;
       flag = t .free || t .armed || t .flag;
       free = t .free;

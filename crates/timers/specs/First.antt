@@ -1,5 +1,5 @@
 -- T1, the first timer: one clock of it.
-use mathlib.Core.Bool.{false, not, _||_, _&&_}
+use mathlib.Core.Bool.{true, false, not, _||_, _&&_}
 use Prim.Native.Nat.{ℕ, _-_}
 use lib.Dec.{eqb}
 use Rattle.clocks.specs.Clocks.{if_then_else_}
@@ -18,15 +18,15 @@ at c t =
       free = t .free;
     }
 
--- the passing of zero: free-run flags each one, asks for a reload and turns the level round; one-shot flags only if armed,
--- which it then is no more, and the level has gone high
+-- the passing of zero: the mark is set, whatever the mode and armed or not. Free-run sets the flag and inverts the level each
+-- time. One-shot sets the flag and the level only if armed, and disarms
 abbrev pub passed : T1 → T1
 passed t =
     record {
       counter = 65535;
       latch = t .latch;
       armed = t .free && t .armed;
-      mark = t .free;
+      mark = true;
       level = if t .free then not (t .level) else t .armed || t .level;
       flag = t .free || t .armed || t .flag;
       free = t .free;

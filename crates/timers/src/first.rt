@@ -4,7 +4,7 @@ ghost use Prim.Native.Nat.{ℕ, _≤_};
 ghost use Rattle.clocks.specs.Clocks.{after};
 ghost use Rattle.clocks.specs.Forecasts.{comes};
 ghost use Rattle.timers.specs.First.{at as atOf, clocked as clockedOf};
-ghost use Rattle.timers.specs.Closed.{topOf, lowOf, turned as turnedOf, fallen as fallenOf};
+ghost use Rattle.timers.specs.Closed.{topOf, turned as turnedOf, fallen as fallenOf};
 use crate::T1;
 use clocks::Forecast;
 
@@ -29,20 +29,12 @@ impl T1 {
         }
     }
 
-    // How many counts a passing leaves it above zero.
-    fn low(self) -> u32
-        ensures { λ r. ⌜ (r ≡ lowOf self) × (r ≤ 65536) ⌝ }
-    {
-        let latch = self.latch as u32;
-        if self.free { latch + 1 } else { 65535 }
-    }
-
     // The passing of zero, and q more.
     fn turned(mut self, q: u32) -> T1
         ensures { λ r. ⌜ r ≡ turnedOf q self ⌝ }
     {
         self.counter = 65535;
-        self.mark = self.free;
+        self.mark = true;
         self.flag = self.free | self.armed | self.flag;
         if self.free {
             self.level = self.level == (q % 2 == 1);
@@ -85,9 +77,10 @@ impl T1 {
         if n <= top {
             return self.fallen(top - n);
         }
-        let low = self.low();
+        let period = self.latch as u32 + 2;
         let past = n - top - 1;
-        self.turned(past / (low + 1)).fallen(low - past % (low + 1))
+        self.turned(past / period)
+            .fallen(period - 1 - past % period)
     }
 
     // When the flag is set.
