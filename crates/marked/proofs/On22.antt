@@ -13,12 +13,9 @@ use Rattle.clocks.specs.declared.Forecast.{Forecast}
 use Rattle.clocks.specs.declared.Forecast.the-variants.{Never, In}
 use Rattle.clocks.proofs.Tests.{both}
 use Rattle.clocks.proofs.Forecasts.{comes-one}
-use Rattle.timers.specs.First as First
 use Rattle.timers.specs.Second as Second
-use Rattle.timers.specs.declared.Timers.{Timers}
 use Rattle.timers.proofs.Firsts as Firsts
 use Rattle.timers.proofs.Seconds as Seconds
-use Rattle.timers.proofs.Pairs.{each}
 use Rattle.via6522.specs.Record.{wellFormed}
 use Rattle.via6522.specs.Access.{readOf}
 use Rattle.via6522.specs.Clock.{timersOf, withTimers, clockOf}
@@ -39,22 +36,15 @@ due2 v = Seconds.dueOf (timersOf v .t2)
 abbrev due : Via → Forecast
 due v = soonest v (due1 v) (due2 v)
 
--- k clocks of the record are k of each timer
-apart :
-    (k : ℕ) (v : Via)
-    → after k clockOf v
-    ≡ withTimers (record { t1 = after k First.clocked (timersOf v .t1); t2 = after k Second.clocked (timersOf v .t2) }) v
-apart k v = Lens.timers-after k v ∙ ap (λ (p : Timers). withTimers p v) (each k (timersOf v))
-
 flag1-due : (k : ℕ) (v : Via) → flag1 k v ≡ comes (due1 v) k
 unfolding withTimers
 flag1-due k v =
-    ap (λ (u : Via). bit 6 (u .ifr)) (apart k v) ∙ Lens.flag1 _ _ (v .ifr) ∙ Firsts.flag-due (timersOf v .t1) k
+    ap (λ (u : Via). bit 6 (u .ifr)) (Lens.each-after k v) ∙ Lens.flag1 _ _ (v .ifr) ∙ Firsts.flag-due (timersOf v .t1) k
 
 flag2-due : (k : ℕ) (v : Via) → flag2 k v ≡ comes (due2 v) k
 unfolding withTimers
 flag2-due k v =
-    ap (λ (u : Via). bit 5 (u .ifr)) (apart k v) ∙ Lens.flag2 _ _ (v .ifr) ∙ Seconds.flag-due (timersOf v .t2) k
+    ap (λ (u : Via). bit 5 (u .ifr)) (Lens.each-after k v) ∙ Lens.flag2 _ _ (v .ifr) ∙ Seconds.flag-due (timersOf v .t2) k
 
 line-due : (k : ℕ) (v : Via) → line22 k v ≡ comes (due v) k
 line-due k v =
@@ -62,7 +52,7 @@ line-due k v =
 
 counter2 : (k : ℕ) (v : Via) → after k clockOf v .t2 .counter ≡ after k Second.clocked (timersOf v .t2) .counter
 unfolding withTimers
-counter2 k v = ap (λ (u : Via). u .t2 .counter) (apart k v)
+counter2 k v = ap (λ (u : Via). u .t2 .counter) (Lens.each-after k v)
 
 -- ---- T1's flag at each of these clocks
 

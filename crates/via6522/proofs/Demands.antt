@@ -19,10 +19,11 @@ use Rattle.ports.specs.Ports.{linesFor}
 use Rattle.ports.proofs.Demands as Ports
 use Rattle.timers.proofs.Firsts as First
 use Rattle.timers.proofs.Seconds as Second
+use Rattle.timers.proofs.Passings.{rounds, idle}
 use Rattle.via6522.specs.Record.{wellFormed, resetOf}
 use Rattle.via6522.specs.Flags.{irqOf}
 use Rattle.via6522.specs.Ports.{linesB, shownA, shownB}
-use Rattle.via6522.specs.Clock.{timersOf}
+use Rattle.via6522.specs.Clock.{timersOf, withTimers}
 use Rattle.via6522.specs.Closed.{steady, soonest}
 use Rattle.via6522.specs.Chip.{chip, clocked, Raised, largestForecast, lined}
 use Rattle.via6522.specs.Demands
@@ -30,6 +31,7 @@ use Rattle.via6522.specs.declared.Via.{Via}
 use Rattle.via6522.specs.declared.Answer.{Answer}
 use Rattle.via6522.proofs.Formed.{formed}
 use Rattle.via6522.proofs.Keeps.{Ranged, leaves-ranged}
+use Rattle.via6522.proofs.Lens.{flag1, each-after}
 use Rattle.via6522.proofs.Lines.{line-after}
 use Rattle.via6522.proofs.Lawful.{lawful, ticks}
 
@@ -144,3 +146,11 @@ shown-by-bit-b v k h l =
     lines-by-bit-b v (if kept then v .«kept_b» else v .b .outside) k h l
     ∙ ap (λ (q : Bool). if bit 7 (v .acr) && eqb k 7 then v .t1 .level else if bit k (v .b .ddr) then bit k (v .b .output) else q)
     (bit-picked k kept (v .«kept_b») (v .b .outside))
+
+pub t1-period : Demands.T1-period
+unfolding timersOf withTimers
+t1-period v n w m = rw (each-after n v) (rounds (timersOf v .t1) m (formed v w .top m) n)
+
+pub t1-disarmed : Demands.T1-disarmed
+unfolding timersOf withTimers
+t1-disarmed v n f a = rw (each-after n v) (let h = idle (timersOf v .t1) f a n in (h .disarmed, flag1 _ _ (v .ifr) ∙ h .flag, h .level))

@@ -9,10 +9,13 @@ use Rattle.clocks.specs.Clocks.{if_then_else_, after}
 use Rattle.clocks.specs.Bits.{bit, withBit}
 use Rattle.clocks.proofs.Clocks.{Part, part-after}
 use Rattle.clocks.proofs.Bits.{bit-with, with-same, all-bits}
+use Rattle.timers.specs.First as First
+use Rattle.timers.specs.Second as Second
 use Rattle.timers.specs.Pair as Pair
 use Rattle.timers.specs.declared.Timers.{Timers}
 use Rattle.timers.proofs.Firsts.{keeps-free}
 use Rattle.timers.proofs.Seconds.{keeps-mode}
+use Rattle.timers.proofs.Pairs.{each}
 use Rattle.via6522.specs.Flags.{withIfr}
 use Rattle.via6522.specs.Clock.{timersOf, withTimers, clockOf}
 use Rattle.via6522.specs.declared.Via.{Via}
@@ -87,3 +90,10 @@ part =
 pub timers-after : (n : ℕ) (v : Via) → after n clockOf v ≡ withTimers (after n Pair.clocked (timersOf v)) v
 unfolding clockOf put
 timers-after n v = part-after Pair.clocked timersOf put part n v
+
+-- n clocks of the chip are n of each timer
+pub each-after :
+    (n : ℕ) (v : Via)
+    → after n clockOf v
+    ≡ withTimers (record { t1 = after n First.clocked (timersOf v .t1); t2 = after n Second.clocked (timersOf v .t2) }) v
+each-after n v = timers-after n v ∙ ap (λ (p : Timers). withTimers p v) (each n (timersOf v))

@@ -14,13 +14,11 @@ use Rattle.clocks.proofs.Bits.{bit-with, shares-same}
 use Rattle.clocks.proofs.Forecasts.{sooner-comes, gate-comes}
 use Rattle.timers.specs.First as First
 use Rattle.timers.specs.Second as Second
-use Rattle.timers.specs.declared.Timers.{Timers}
-use Rattle.timers.proofs.Pairs.{each}
 use Rattle.via6522.specs.Flags.{irqOf}
 use Rattle.via6522.specs.Clock.{timersOf, withTimers, clockOf}
 use Rattle.via6522.specs.Closed.{steady, soonest}
 use Rattle.via6522.specs.declared.Via.{Via}
-use Rattle.via6522.proofs.Lens.{flags, timers-after}
+use Rattle.via6522.proofs.Lens.{flags, each-after}
 
 -- what eight bits share, the top three apart
 abbrev apart : ℕ → Bool → Bool → Bool → Bool → Bool
@@ -80,7 +78,7 @@ pub line-after :
     → (k : ℕ) → irqOf (after k clockOf v) ≡ comes (soonest v f g) k
 unfolding withTimers
 line-after v f g hf hg k =
-    ap irqOf (timers-after k v ∙ ap (λ (p : Timers). withTimers p v) (each k (timersOf v)))
+    ap irqOf (each-after k v)
     ∙ ap₂ (λ (a b : Bool). shares 8 (flags a b (v .ifr)) (v .ier)) (hf k) (hg k)
     ∙ line-split (comes f k) (comes g k) (v .ifr) (v .ier)
     ∙ sym (three v f g k)
