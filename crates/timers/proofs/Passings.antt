@@ -22,14 +22,11 @@ Since latch r u = (u .mark ≡ eqb r 0) × (u .counter ≡ (if eqb r 0 then 6553
 since : (t : T1) → t .mark ≡ true → t .counter ≡ 65535 → (r : ℕ) → r ≤ t .latch + 1 → Since (t .latch) r (fallen (t .latch + 1 - r) t)
 since t m c r h = rw (on-true (t .mark) (t .latch + 1) (t .counter) m) (go (ℕ-discrete r 0))
   where
-    at-top : ℕ → Bool
-    at-top k = eqb (t .latch + 1 - k) (t .latch + 1)
-
-    go : Dec (r ≡ 0) → Since (t .latch) r (if at-top r then t else at (t .latch + 1 - r) t)
+    go : Dec (r ≡ 0) → Since (t .latch) r (if eqb (t .latch + 1 - r) (t .latch + 1) then t else at (t .latch + 1 - r) t)
     go (yes e) = rw (eq-eqb (t .latch + 1 - r) (t .latch + 1) (omega arith), eq-eqb r 0 e) (m, c)
     go (no e) = rw (ne-eqb (t .latch + 1 - r) (t .latch + 1) (omega arith), ne-eqb r 0 e) (refl, refl)
 
--- the passings of zero come latch + 2 clocks after one another, in either mode
+-- n clocks after a passing of zero, the last passing is n % (latch + 2) clocks back
 pub rounds : (t : T1) → t .mark ≡ true → t .counter ≡ 65535 → (n : ℕ) → Since (t .latch) (n % periodOf t) (after n clocked t)
 rounds t m c n = go (decLt (t .latch + 1) n)
   where

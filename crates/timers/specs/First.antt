@@ -18,8 +18,8 @@ at c t =
       free = t .free;
     }
 
--- the passing of zero: the mark is set, whatever the mode and armed or not. Free-run sets the flag and inverts the level each
--- time. One-shot sets the flag and the level only if armed, and disarms
+-- the passing of zero sets the mark, in either mode and armed or not. Free-run also sets the flag and inverts the level. An
+-- armed one-shot sets the flag, sets the level high and disarms; a disarmed one does no more
 abbrev pub passed : T1 → T1
 passed t =
     record {
