@@ -131,7 +131,8 @@ class Story22(Story):
         return self.latch + 2
 
     def set_latch(self, value):
-        # A whole period to go: the mark is set, and the reload takes the new latch.
+        # A whole period to go: the mark is set, and the reload takes the new latch. (Seldom it is a counter that is one
+        # above the latch, and the aim is off.)
         marked = self.t1_due == self.t1_period()
         self.latch = value
         if marked:
@@ -393,7 +394,7 @@ class Story22(Story):
         yield self.set_acr(0x80)
 
     def t1_show(self):
-        """What of T1 can be seen: its counter, its flag, PB7, and when the flag is due."""
+        """What of T1 can be seen: its counter, its flag, PB7, and when the line is due."""
         return draw(self.rng, ((25, self.read(0)), (25, self.read(4)), (20, self.read(5)), (15, self.read(13)),
                                (15, self.forecast())))
 

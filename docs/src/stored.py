@@ -14,7 +14,7 @@ sessions.py; they reach other states, and make the session eight times as
 long as the program's buffer, so that a program that stops reading is found.
 
 The longest runs are few: the reference also answers this session one clock at
-a time, and one such run of the 6522 alone takes it some ten seconds.
+a time, and one such run of the 6522 alone takes it some five seconds.
 """
 
 import sys
@@ -388,8 +388,8 @@ def via_port_flags():
 
 
 def via_timers():
-    # T1, clock by clock through three passings and a reload, in one-shot and free-run: PB7, counter, flag. The read of
-    # its low byte clears the flag, which a one-shot doesn't set again.
+    # T1, clock by clock through three passings, each with its reload, in one-shot and free-run: PB7, counter, flag. The
+    # read of its low byte clears the flag, which a one-shot doesn't set again.
     for acr in (0x80, 0xC0):
         for value in (0, 1, 3):
             yield from clean_via(acr=acr)

@@ -3,6 +3,7 @@ use mathlib.Core.Path.{_≡_, refl, sym, ap, _∙_}
 use mathlib.Core.Bool.{Bool, true, false, _||_, false≢true}
 use Prim.Native.Nat.{ℕ, suc, _+_, _-_, _/_, _%_, _<_, _≤_}
 use native.Mathlib.Decide.{ℕ-discrete}
+use native.Mathlib.Nat.{mod-lt}
 use native.Mathlib.Omega.{arith}
 use lib.Dec.{eqb, eqb·suc-zero, lit<}
 use borrow.Author.Tests.{eq-eqb, ne-eqb}
@@ -29,6 +30,7 @@ by-top t = go (t .mark)
     go true = rw (ne-eqb (t .latch + 1) 0 (omega arith)) (ap (λ (x : ℕ). at x t) (omega arith))
     go false = refl
 
+-- fallen to k, the timer is k counts above zero: a clock takes it one count lower, and past zero from there
 module _ (t : T1) where
   top-fallen : (k : ℕ) → topOf (fallen k t) ≡ k
   top-fallen k = go (ℕ-discrete k (topOf t))
@@ -49,11 +51,12 @@ module _ (t : T1) where
   passes : clocked (fallen 0 t) ≡ passed t
   passes = by-top (fallen 0 t) ∙ rw (top-fallen 0) (picked (λ (u : T1). passed u ≡ passed t) (eqb 0 (topOf t)) refl refl)
 
--- the timer in the mode r, armed as a says
+-- the timer in free-run if r, armed if a
 abbrev in-mode : Bool → Bool → T1 → T1
 in-mode r a t =
     record { counter = t .counter; latch = t .latch; armed = a; mark = t .mark; level = t .level; flag = t .flag; free = r }
 
+-- one passing more
 again : (q : ℕ) (t : T1) → passed (turned q t) ≡ turned (suc q) t
 unfolding after
 again q t = go (t .free) (t .armed)
@@ -63,7 +66,7 @@ again q t = go (t .free) (t .armed)
     go false true = refl
     go false false = refl
 
-pub turns : (t : T1) → Turns clocked t (topOf t) (t .latch + 1) (λ k. fallen k t) (λ q k. fallen k (turned q t))
+turns : (t : T1) → Turns clocked t (topOf t) (t .latch + 1) (λ k. fallen k t) (λ q k. fallen k (turned q t))
 unfolding after
 turns t =
     record {
@@ -81,6 +84,10 @@ turns t =
 -- n clocks, short of the passing of zero and past it
 pub ran-short : (t : T1) (n : ℕ) → n ≤ topOf t → after n clocked t ≡ fallen (topOf t - n) t
 ran-short t n h = after-short (turns t) n h
+
+-- a remainder is below what it is the remainder of
+pub under : (n p : ℕ) → 0 < p → n % p ≤ p - 1
+under n p some = omega (arith, mod-lt n some)
 
 pub ran-past :
     (t : T1) (n : ℕ) → topOf t < n

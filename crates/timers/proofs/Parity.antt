@@ -1,4 +1,4 @@
--- A level that is turned round q + 1 times, by whether q is odd.
+-- A level that is inverted q + 1 times, by whether q is odd.
 use mathlib.Core.Path.{_≡_, refl, ap, _∙_}
 use mathlib.Core.Bool.{Bool, true, false, not, Bool·beq}
 use Prim.Native.Nat.{ℕ, zero, suc, _%_, _<_}

@@ -1,9 +1,9 @@
 -- T1's passings of zero: when they come, and what they leave of a disarmed one-shot.
 use mathlib.Core.Path.{_≡_, refl, sym, ap, _∙_}
-use mathlib.Core.Bool.{Bool, true, false}
+use mathlib.Core.Bool.{true, false}
 use Prim.Native.Nat.{ℕ, _+_, _-_, _/_, _%_, _<_, _≤_}
 use native.Mathlib.Decide.{ℕ-discrete, decLt}
-use native.Mathlib.Nat.{mod-lt, mod-eq-of-lt, mod-eq-sub-mod}
+use native.Mathlib.Nat.{mod-eq-of-lt, mod-eq-sub-mod}
 use native.Mathlib.Omega.{arith}
 use lib.Dec.{eqb}
 use borrow.Author.Tests.{eq-eqb, ne-eqb}
@@ -13,7 +13,7 @@ use Rattle.clocks.proofs.Tests.{on-true, picked}
 use Rattle.timers.specs.First.{at, passed, clocked}
 use Rattle.timers.specs.Closed.{topOf, periodOf, turned, fallen}
 use Rattle.timers.specs.declared.T1.{T1}
-use Rattle.timers.proofs.Firsts.{ran-short, ran-past}
+use Rattle.timers.proofs.Firsts.{ran-short, under, ran-past}
 
 -- r clocks after a passing of zero, the next one not yet reached: the mark, and the counter
 abbrev pub Since : ℕ → ℕ → T1 → Type 0
@@ -36,22 +36,22 @@ rounds t m c n = go (decLt (t .latch + 1) n)
     low : periodOf t - 1 ≡ t .latch + 1
     low = omega arith
 
-    under : n % periodOf t ≤ t .latch + 1
-    under = let some : 0 < periodOf t = omega arith in omega (arith, mod-lt n some)
+    rest : n % periodOf t ≤ t .latch + 1
+    rest = omega (arith, under n (periodOf t) (omega arith))
 
     go : Dec (t .latch + 1 < n) → Since (t .latch) (n % periodOf t) (after n clocked t)
     go (no h) =
         let few : n < periodOf t = omega arith in
         let e : n ≡ n % periodOf t = sym (mod-eq-of-lt few) in
-        rw (ran-short t n (omega (arith, top)) ∙ (λ i. fallen (top i - e i) t)) (since t m c (n % periodOf t) under)
+        rw (ran-short t n (omega (arith, top)) ∙ (λ i. fallen (top i - e i) t)) (since t m c (n % periodOf t) rest)
     go (yes h) =
         let all : periodOf t ≤ n = omega arith in
         let past : n - topOf t - 1 ≡ n - periodOf t = omega (arith, top) in
         let e : (n - topOf t - 1) % periodOf t ≡ n % periodOf t = ap (λ (x : ℕ). x % periodOf t) past ∙ sym (mod-eq-sub-mod all) in
         rw (ran-past t n (omega (arith, top)) ∙ (λ i. fallen (low i - e i) (turned ((n - topOf t - 1) / periodOf t) t)))
-        (since (turned ((n - topOf t - 1) / periodOf t) t) refl refl (n % periodOf t) under)
+        (since (turned ((n - topOf t - 1) / periodOf t) t) refl refl (n % periodOf t) rest)
 
--- no clock arms a disarmed one-shot, or moves its flag or its level
+-- no clock arms a disarmed one-shot, sets or clears its flag, or changes its level
 pub record Idle (t u : T1) : Type 0 where
   pub one-shot : u .free ≡ false
   pub disarmed : u .armed ≡ false

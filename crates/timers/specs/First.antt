@@ -18,8 +18,8 @@ at c t =
       free = t .free;
     }
 
--- the passing of zero sets the mark, in either mode and armed or not. Free-run also sets the flag and inverts the level. An
--- armed one-shot sets the flag, sets the level high and disarms; a disarmed one does no more
+-- every passing of zero sets the mark. Free-run also sets the flag and inverts the level, and leaves the arming. An armed
+-- one-shot also sets the flag and disarms, and its level goes high; a disarmed one sets the mark alone
 abbrev pub passed : T1 → T1
 passed t =
     record {

@@ -71,7 +71,7 @@ pair p a free b pulse =
     }
 
 -- what is put in is taken out, where the modes are the record's
-pub get-put :
+get-put :
     (p : Timers) (v : Via) → p .t1 .free ≡ bit 6 (v .acr) → p .t2 .pulse ≡ bit 5 (v .acr) → timersOf (withTimers p v) ≡ p
 unfolding timersOf withTimers
 get-put p v f m =

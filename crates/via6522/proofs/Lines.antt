@@ -18,7 +18,7 @@ use Rattle.via6522.specs.Flags.{irqOf}
 use Rattle.via6522.specs.Clock.{timersOf, withTimers, clockOf}
 use Rattle.via6522.specs.Closed.{steady, soonest}
 use Rattle.via6522.specs.declared.Via.{Via}
-use Rattle.via6522.proofs.Lens.{flags, each-after}
+use Rattle.via6522.proofs.Lens.{flags, flag1, flag2, each-after}
 
 -- what eight bits share, the top three apart
 abbrev apart : ℕ → Bool → Bool → Bool → Bool → Bool
@@ -32,13 +32,10 @@ shares-apart x y = refl
 with-flags : (a b : Bool) (x y : ℕ) → shares 8 (flags a b x) y ≡ apart y (bit 7 x) a b (shares 5 x y)
 with-flags a b x y =
     shares-apart (flags a b x) y
-    ∙ (λ i. apart y (top i) (bit-with 6 a 6 (withBit 5 b x) i) (mid i) (low i))
+    ∙ (λ i. apart y (top i) (flag1 a b x i) (flag2 a b x i) (low i))
   where
     top : bit 7 (flags a b x) ≡ bit 7 x
     top = bit-with 6 a 7 (withBit 5 b x) ∙ bit-with 5 b 7 x
-
-    mid : bit 5 (flags a b x) ≡ b
-    mid = bit-with 6 a 5 (withBit 5 b x) ∙ bit-with 5 b 5 x
 
     low : shares 5 (flags a b x) y ≡ shares 5 x y
     low =

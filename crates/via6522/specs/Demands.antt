@@ -1,4 +1,4 @@
--- What the three demands ask of the 6522 beyond the promise of each entry. proofs/Demands.antt has a proof of each statement, under its name in small letters.
+-- What the three demands and the requests ask of the 6522 beyond the promise of each entry. proofs/Demands.antt has a proof of each statement, under its name in small letters.
 use mathlib.Core.Path.{_≡_}
 use mathlib.Core.Bool.{true, false, _&&_}
 use Prim.Native.Nat.{ℕ, _+_, _-_, _%_, _<_}
@@ -50,8 +50,8 @@ Shown-by-bit-B =
     else if bit k (v .b .ddr) then bit k (v .b .output)
     else if bit 1 (v .acr) && bit 4 (v .ifr) then bit k (v .«kept_b») else bit k (v .b .outside))
 
--- request 02: T1 passes zero every latch + 2 clocks, in either mode and armed or not. Counted from a passing, the mark is set at
--- each multiple of latch + 2 and at no other clock; between two of them the counter falls from the latch to 0
+-- request 02: T1's passings of zero are latch + 2 clocks apart; neither the mode nor the arming matters. Counted from a passing,
+-- the mark is set at each multiple of latch + 2 and at no other clock; between two of them the counter falls from the latch to 0
 abbrev pub T1-period : Type 0
 T1-period =
     (v : Via) (n : ℕ) → wellFormed v ≡ true → v .t1 .mark ≡ true
@@ -59,7 +59,7 @@ T1-period =
     let u = after n clockOf v .t1 in
     (u .mark ≡ eqb r 0) × (u .counter ≡ (if eqb r 0 then 65535 else v .t1 .latch + 1 - r))
 
--- a disarmed T1 in one-shot stays disarmed, and its passings leave IFR6 and the level as they are
+-- request 02: a disarmed T1 in one-shot stays disarmed, and its passings leave IFR6 and the level as they are
 abbrev pub T1-disarmed : Type 0
 T1-disarmed =
     (v : Via) (n : ℕ) → bit 6 (v .acr) ≡ false → v .t1 .armed ≡ false

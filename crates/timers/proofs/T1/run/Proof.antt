@@ -1,15 +1,11 @@
-use Prim.Native.Nat.{ℕ, _+_, _-_, _/_, _%_, _<_, _≤_}
+use Prim.Native.Nat.{ℕ, _-_, _/_, _%_}
 use borrow.Author.Needs.{needs}
 use mathlib.Core.Path.{_∙_, ap, sym}
-use native.Mathlib.Nat.{mod-lt}
 use native.Mathlib.Omega.{arith}
 use Rattle.timers.specs.Closed.{periodOf, fallen, turned}
-use Rattle.timers.proofs.Firsts.{ran-short, ran-past}
+use Rattle.timers.proofs.Firsts.{ran-short, under, ran-past}
 use Rattle.timers.proofs.T1.run.Statement.{statement}
 use Rattle.timers.proofs.T1.run.Tie as tie
-
-under : (n p : ℕ) → 0 < p → n % p ≤ p - 1
-under n p some = omega (arith, mod-lt n some)
 
 returns : tie.Need-returns
 returns c = let t = c .before .before .before .args .self in
