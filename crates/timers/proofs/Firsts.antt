@@ -81,13 +81,13 @@ turns t =
     lands : (q : ℕ) → fallen (t .latch + 1) (turned q t) ≡ turned q t
     lands q = rw (eq-eqb (t .latch + 1) (t .latch + 1) refl)
 
--- n clocks, short of the passing of zero and past it
-pub ran-short : (t : T1) (n : ℕ) → n ≤ topOf t → after n clocked t ≡ fallen (topOf t - n) t
-ran-short t n h = after-short (turns t) n h
-
 -- a remainder is below what it is the remainder of
 pub under : (n p : ℕ) → 0 < p → n % p ≤ p - 1
 under n p some = omega (arith, mod-lt n some)
+
+-- n clocks, short of the passing of zero and past it
+pub ran-short : (t : T1) (n : ℕ) → n ≤ topOf t → after n clocked t ≡ fallen (topOf t - n) t
+ran-short t n h = after-short (turns t) n h
 
 pub ran-past :
     (t : T1) (n : ℕ) → topOf t < n
@@ -134,7 +134,7 @@ marked-top t =
     picked (λ (u : T1). u .mark ≡ true → u .counter ≡ 65535) (t .mark) (λ e. absurd (false≢true e))
     (picked (λ (u : T1). u .mark ≡ true → u .counter ≡ 65535) (eqb (t .counter) 0) (λ e. refl) (λ e. absurd (false≢true e)))
 
--- a clock keeps 16 bits, and the flag comes after 65,537 clocks at the latest
+-- a clock keeps 16 bits, and the flag is set after 65,537 clocks at the latest, or never
 module _ (t : T1) (l : t .latch < 65536) (h : t .counter < 65536) where
   pub clock-range : (clocked t .latch < 65536) × (clocked t .counter < 65536)
   unfolding clocked

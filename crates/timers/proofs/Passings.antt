@@ -1,4 +1,4 @@
--- T1's passings of zero: when they come, and what they leave of a disarmed one-shot.
+-- T1's passings of zero: at which clocks they are, and what they leave of a disarmed one-shot.
 use mathlib.Core.Path.{_≡_, refl, sym, ap, _∙_}
 use mathlib.Core.Bool.{true, false}
 use Prim.Native.Nat.{ℕ, _+_, _-_, _/_, _%_, _<_, _≤_}

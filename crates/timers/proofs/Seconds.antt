@@ -74,7 +74,7 @@ module _ (t : T2) (p : t .pulse ≡ false) where
 abbrev pub dueOf : T2 → Forecast
 dueOf t = if t .flag then In 0 else if t .armed && not (t .pulse) then In (t .counter + 1) else Never
 
--- an armed timer's flag comes by itself only where clocks count
+-- an armed timer's flag is set by clocks only where clocks count
 unmoved : (a : Bool) → (f : Forecast) → (if a && false then f else Never) ≡ Never
 unmoved true f = refl
 unmoved false f = refl
@@ -96,7 +96,7 @@ pub keeps-mode : (t : T2) → clocked t .pulse ≡ t .pulse
 unfolding clocked counted
 keeps-mode t = picked (λ (u : T2). u .pulse ≡ t .pulse) (t .pulse) refl refl
 
--- a count keeps 16 bits, so do a clock and a pulse, and the flag comes after 65,536 clocks at the latest
+-- a count keeps 16 bits, so do a clock and a pulse, and the flag is set after 65,536 clocks at the latest, or never
 module _ (t : T2) (h : t .counter < 65536) where
   counted-range : counted t .counter < 65536
   unfolding counted

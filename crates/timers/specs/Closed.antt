@@ -10,7 +10,7 @@ use Rattle.timers.specs.declared.T1.{T1}
 abbrev pub topOf : T1 → ℕ
 topOf t = if t .mark then t .latch + 1 else t .counter
 
--- T1 passes zero every so many clocks, in either mode: one for the reload, the latch's count, and one for the passing
+-- the clocks from one passing of zero to the next: the reload, as many counts as the latch says, the passing
 abbrev pub periodOf : T1 → ℕ
 periodOf t = t .latch + 2
 

@@ -4,7 +4,7 @@ use lib.Dec.{eqb}
 use Rattle.clocks.specs.Clocks.{if_then_else_, lower}
 use Rattle.timers.specs.declared.T2.{T2}
 
--- the counter goes round; only the wrap of an armed timer raises the flag, and no later one does
+-- the counter goes round; only the wrap of an armed timer sets the flag, and no later one does
 unfoldable pub counted : T2 → T2
 counted t =
     record {
