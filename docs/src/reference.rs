@@ -25,6 +25,25 @@ const RUN_TOO_LONG: u8 = 6;
 /// arise here: a session's records all descend from power-up.)
 type Checked<T> = Result<T, u8>;
 
+// ------------------------------------------------------------------- reads
+
+/// What a read of the 6522 or the 6532 gives.
+struct Reading {
+    data: u8,
+    /// The flags that this read took from set to clear, each in the bit where
+    /// a read of the flags shows it.
+    cleared: u8,
+}
+
+impl Reading {
+    fn new(data: u8, flags_before: u8, flags_after: u8) -> Self {
+        Reading {
+            data,
+            cleared: flags_before & !flags_after,
+        }
+    }
+}
+
 // -------------------------------------------------------------------- 6522
 
 /// Bits of IFR and IER.
@@ -204,7 +223,13 @@ impl Chip6522 {
         }
     }
 
-    fn read(&mut self, register: u8) -> Checked<u8> {
+    fn read(&mut self, register: u8) -> Checked<Reading> {
+        let before = self.ifr;
+        let data = self.read_data(register)?;
+        Ok(Reading::new(data, before, self.ifr))
+    }
+
+    fn read_data(&mut self, register: u8) -> Checked<u8> {
         let data = match register {
             0 => {
                 let data = self.port_b_as_read();
@@ -573,7 +598,20 @@ impl Chip6532 {
         mix(self.ddr_b, self.port_b, self.outside_b)
     }
 
-    fn read(&mut self, address: u8) -> u8 {
+    /// Both flags as a read of them shows them.
+    fn flags(&self) -> u8 {
+        let timer = if self.timer_flag { 0x80 } else { 0 };
+        let pa7 = if self.pa7_flag { 0x40 } else { 0 };
+        timer | pa7
+    }
+
+    fn read(&mut self, address: u8) -> Reading {
+        let before = self.flags();
+        let data = self.read_data(address);
+        Reading::new(data, before, self.flags())
+    }
+
+    fn read_data(&mut self, address: u8) -> u8 {
         if address & 0x80 == 0 {
             self.ram[usize::from(address)]
         } else if address & 0x04 == 0 {
@@ -588,10 +626,9 @@ impl Chip6532 {
             self.timer_enable = address & 0x08 != 0;
             self.timer
         } else {
-            let timer = if self.timer_flag { 0x80 } else { 0 };
-            let pa7 = if self.pa7_flag { 0x40 } else { 0 };
+            let data = self.flags();
             self.pa7_flag = false;
-            timer | pa7
+            data
         }
     }
 
@@ -1045,6 +1082,7 @@ fn low_byte(word: u16) -> u8 {
 enum Reply {
     Nothing,
     Data(u8),
+    Reading(Reading),
     Forecast(Option<u32>),
 }
 
@@ -1074,6 +1112,10 @@ impl Bench {
                 match reply {
                     Reply::Nothing => {}
                     Reply::Data(data) => push_byte(answers, data),
+                    Reply::Reading(reading) => {
+                        push_byte(answers, reading.data);
+                        push_byte(answers, reading.cleared);
+                    }
                     Reply::Forecast(clocks) => {
                         for byte in clocks.unwrap_or(NEVER).to_be_bytes() {
                             push_byte(answers, byte);
@@ -1115,7 +1157,7 @@ impl Bench {
         match *call {
             [0x01] => chip.reset(),
             [0x02, register, value] => chip.write(register, value)?,
-            [0x03, register] => return Ok(Reply::Data(chip.read(register)?)),
+            [0x03, register] => return Ok(Reply::Reading(chip.read(register)?)),
             [0x04, a, b, control] => chip.pins(a, b, control)?,
             [0x05, n3, n2, n1, n0] => {
                 let clocks = u32::from_be_bytes([n3, n2, n1, n0]);
@@ -1137,7 +1179,7 @@ impl Bench {
         match *call {
             [0x01] => chip.reset(),
             [0x02, address, value] => chip.write(address, value),
-            [0x03, address] => return Ok(Reply::Data(chip.read(address))),
+            [0x03, address] => return Ok(Reply::Reading(chip.read(address))),
             [0x04, a, b] => chip.pins(a, b),
             [0x05, n3, n2, n1, n0] => {
                 let clocks = u32::from_be_bytes([n3, n2, n1, n0]);

@@ -117,7 +117,7 @@ class Story22(Story):
 
     def phases(self):
         return ((self.t1_phase, 34), (self.t2_phase, 18), (self.pulse_phase, 12),
-                (self.edge_phase, 30), (self.noise_phase, 6))
+                (self.edge_phase, 30), (self.flags_phase, 13), (self.noise_phase, 6))
 
     # Calls that keep the aim up to date.
 
@@ -214,10 +214,9 @@ class Story22(Story):
         return self.frame(4, self.byte(), self.byte(),
                           rng.choice((16, 17, 31, 240, 255, rng.randrange(16, 256))))
 
-    def pcr_value(self):
+    def pcr_value(self, codes=ALLOWED_CODES):
         rng = self.rng
-        return (rng.randrange(2) | rng.choice(self.ALLOWED_CODES) << 1
-                | rng.randrange(2) << 4 | rng.choice(self.ALLOWED_CODES) << 5)
+        return rng.randrange(2) | rng.choice(codes) << 1 | rng.randrange(2) << 4 | rng.choice(codes) << 5
 
     def look(self):
         """A read that shows much and changes nothing, or a forecast."""
@@ -472,7 +471,7 @@ class Story22(Story):
         rng = self.rng
         yield self.set_acr(rng.choice((0, 1, 2, 3, 3, 3, 0x83, 0xC3, rng.randrange(256) & 0xE3)))
         yield self.write(12, self.pcr_value())
-        yield from self.enables()
+        yield from self.some_enables() if self.chance(60) else self.enables()
         yield self.write(2, self.byte())
         yield self.write(3, self.byte())
         for _ in range(rng.randrange(10, 60)):
@@ -544,6 +543,49 @@ class Story22(Story):
     def edge_sr(self):
         yield self.write(10, self.byte())
         yield self.read(10)
+
+    def flags_phase(self):
+        """Some flags set, some of them enabled, and reads that clear a part of them."""
+        rng = self.rng
+        yield self.set_acr(rng.choice((0, 0x40, 0x03, 0xC3, rng.randrange(256) & 0xC3)))
+        for _ in range(rng.randrange(4, 14)):
+            if self.chance(40):
+                yield self.write(12, self.pcr_value((0, 0, 1, 2, 2, 3, 6)))
+            if self.chance(40):
+                yield from self.some_enables()
+            if self.chance(40):
+                yield self.write(13, rng.choice((0x7F, 0x7F, rng.randrange(128))))
+            yield from self.set_flags()
+            for _ in range(rng.randrange(1, 6)):
+                yield self.clearing_read()
+            if self.chance(30):
+                yield self.forecast()
+
+    def some_enables(self):
+        """All, none, or about half of the seven."""
+        yield self.write(14, 0x7F)
+        yield self.write(14, 0x80 | self.rng.choice((0x7F, 0, self.rng.randrange(128), self.rng.randrange(128))))
+
+    def set_flags(self):
+        """Control lines moved there and back, which every code with edges sees, and timers that pass zero."""
+        rng = self.rng
+        moved = rng.choice((0, 1, 2, 2, 4, 8, 8, 3, 12, 15, rng.randrange(16)))
+        for _ in range(2 if moved else 0):
+            self.control ^= moved
+            yield self.pins()
+        timers = rng.choice((0, 0, 1, 2, 2, 3))
+        if timers & 1:
+            yield from self.load_t1(rng.randrange(3))
+        if timers & 2:
+            yield from self.load_t2(rng.randrange(3))
+        if timers:
+            yield self.run(3)
+
+    def clearing_read(self):
+        """A read of a register that clears flags, for the most part, or of one that is easily taken for such."""
+        return self.read(draw(self.rng, (
+            (26, 0), (26, 1), (11, 4), (15, 8), (3, 10), (5, 13), (6, 15), (3, 5), (3, 9), (2, self.rng.randrange(16)),
+        )))
 
     def noise_phase(self):
         rng = self.rng

@@ -7,11 +7,11 @@ tests/stored --make does that, and has the reference write the answers. The
 same bytes come out each time. The session begins with document 01's worked
 one and goes on rule by rule: every kind of frame, every refusal with each of
 its causes, what is easy to get wrong, the twelve marked cases, lines that are
-no frame, each register of each chip, the longest runs. After a call that
-changes something come calls that show it, for a bench that gets the rule wrong
-has to answer one of them differently. The last three quarters are made by
-sessions.py; they reach other states, and make the session eight times as
-long as the program's buffer, so that a program that stops reading is found.
+no frame, each register of each chip, what each read cleared, the longest runs.
+After a call that changes something come calls that show it, for a bench that
+gets the rule wrong has to answer one of them differently. The last 30,000 lines
+are made by sessions.py; they reach other states, and make the session nine times
+as long as the program's buffer, so that a program that stops reading is found.
 
 The longest runs are few: the reference also answers this session one clock at
 a time, and one such run of the 6522 alone takes it some five seconds.
@@ -459,6 +459,35 @@ def via_timers():
             yield from (write(VIA, IER, 1 << bit), *reads(VIA, IFR, IER))
 
 
+def flags_of(mask):
+    """Every set of a mask's bits."""
+    return [flags for flags in range(mask + 1) if flags & ~mask == 0]
+
+
+def control_falls():
+    """All four control lines down, from high."""
+    return [pins(VIA, 0xFF, 0xFF, 0x0F), pins(VIA, 0xFF, 0xFF, 0x00)]
+
+
+def via_cleared():
+    """What a read cleared, for each set of the flags that a session can set (all but SR's)."""
+    yield from clean_via(enables=0x5A)
+    for flags in flags_of(0x7B):
+        yield from (*control_falls(), *load_t1(0), *load_t2(0), run(VIA, 1), write(VIA, IFR, 0x7F ^ flags))
+        yield from reads(VIA, T2_LOW, PORT_A, SR, IFR, T1_LOW, PORT_B, IFR)
+    # CA2 alone independent, then CB2 alone. The second read of a port finds nothing more.
+    for pcr in (0x02, 0x60):
+        for flags in flags_of(0x1B):
+            yield from (write(VIA, PCR, 0), *control_falls(), write(VIA, IFR, 0x7F ^ flags), write(VIA, PCR, pcr))
+            yield from reads(VIA, PORT_A, PORT_A, PORT_B, PORT_B, IFR)
+    # Reads that clear nothing, refused ones among them, with six flags set, none of them enabled or all.
+    for enables in (0x00, 0x7F):
+        yield from clean_via(enables=enables)
+        yield from (*load_t1(0), *load_t2(0), run(VIA, 1), *control_falls())
+        for register in (DDRB, DDRA, T1_HIGH, LATCH_LOW, LATCH_HIGH, T2_HIGH, SR, ACR, PCR, IER, PORT_A_QUIET, 16, 255):
+            yield from reads(VIA, register, IFR)
+
+
 # --------------------------------------------------------------------- 6532
 
 def riot_memory():
@@ -505,6 +534,19 @@ def riot_pa7():
                 yield from (pins(RIOT, level, 0xFF), forecast(RIOT), read(RIOT, FLAGS), read(RIOT, 0x80))
             yield from (pins(RIOT, 0xFF, 0xFF), pins(RIOT, 0x7F, 0xFF), write(RIOT, 0x84 | control ^ 3, 0), run(RIOT, 0),
                         read(RIOT, TIMER), read(RIOT, FLAGS), write(RIOT, 0x80, 0x7F), read(RIOT, FLAGS))
+
+
+def riot_cleared():
+    """What a read cleared: RAM, ports, timer and flags with each set of flags, enabled or not."""
+    yield reset(RIOT)
+    for enabled in (False, True):
+        yield write(RIOT, 0x86 if enabled else 0x84, 0)
+        for timer, pa7 in ((0, 0), (0, 1), (1, 0), (1, 1)):
+            for address in (5, 0x80, 0x81, 0x82, 0x83, TIMER, TIMER_ON, FLAGS):
+                yield from (pins(RIOT, 0xFF, 0xFF), load_timer(0, 0, enabled), run(RIOT, timer),
+                            pins(RIOT, 0xFF ^ 0x80 * pa7, 0xFF), *reads(RIOT, address, FLAGS, TIMER))
+    # Of the timer reads at each clock the ninth, at the passing of zero, clears the flag, and no other.
+    yield from (load_timer(1, 1, True), *clocks(RIOT, 12, read(RIOT, TIMER_ON)), forecast(RIOT))
 
 
 # --------------------------------------------------------------------- 6545
@@ -621,8 +663,8 @@ def generated():
 SECTIONS = (
     worked_session, as_they_come, every_frame, resets, no_frames, no_such_register, forms_left_out, levels_too_high,
     runs_too_long, easy_to_get_wrong, marked_cases, hostile_lines, via_registers, via_lines, via_edges,
-    via_port_flags, via_timers, riot_memory, riot_addresses, riot_timer, riot_pa7, crtc_registers, crtc_screens,
-    crtc_cursor, crtc_lowered, crtc_pen, longest_runs, generated,
+    via_port_flags, via_timers, via_cleared, riot_memory, riot_addresses, riot_timer, riot_pa7, riot_cleared,
+    crtc_registers, crtc_screens, crtc_cursor, crtc_lowered, crtc_pen, longest_runs, generated,
 )
 
 

@@ -12,7 +12,7 @@ use borrow.Author.Tests.{eq-eqb, ne-eqb, eqb-true}
 use mathlib.Core.Logic.{_⊎_, inl, inr}
 use Rattle.clocks.proofs.Tests.{both, either, neither}
 use Rattle.clocks.specs.Clocks.{if_then_else_}
-use Rattle.clocks.specs.Bits.{bit, withSet, withClear, withBit, merge, shares}
+use Rattle.clocks.specs.Bits.{bit, withSet, withClear, fallen, withBit, merge, shares}
 
 -- what holds of both digits holds of a number below 2
 by-digit : (P : ℕ → Type 0) → P 0 → P 1 → (d : ℕ) → d < 2 → P d
@@ -35,6 +35,9 @@ bit-suc k x = ap (λ (y : ℕ). eqb (y % 2) 1) (ap (λ (p : ℕ). x / p) (pow-su
 pub bit-high : (n k x : ℕ) → x < 2 ^ n → n ≤ k → bit k x ≡ false
 unfolding bit
 bit-high n k x h l = let g : x < 2 ^ k = omega (arith, pow-mono l) in rw (div-eq-of-lt g)
+
+pub bit-none : (k : ℕ) → bit k 0 ≡ false
+bit-none k = bit-high 0 k 0 (lit< tt) zero-le
 
 -- where an operation acts on each digit by f, each bit of its result is f of the operands' bits
 module _ (op : ℕ → ℕ → ℕ) (f : Bool → Bool → Bool)
@@ -156,6 +159,14 @@ all-bits x y e =
     (omega (arith, below y, pow-mono {i = y} {j = x + y} (omega arith)))
     (λ k l. e k)
 
+-- nothing falls from a number to itself
+pub fallen-none : (x : ℕ) → fallen x x ≡ 0
+fallen-none x = all-bits _ _ (λ k. bit-clear k x x ∙ apart (bit k x) ∙ sym (bit-none k))
+  where
+    apart : (b : Bool) → (b && not b) ≡ false
+    apart true = refl
+    apart false = refl
+
 -- a power of two has one bit
 pub bit-power : (k j : ℕ) → bit j (2 ^ k) ≡ eqb j k
 bit-power zero zero = bit-zero 1
@@ -218,17 +229,14 @@ shares-some (suc n) x y h k l =
 pub shares-and : (n x y : ℕ) → x < 2 ^ n → shares n x y ≡ not (eqb (bitAnd x y) 0)
 shares-and n x y l = go (ℕ-discrete (bitAnd x y) 0) (shares n x y) refl
   where
-    none : (k : ℕ) → bit k 0 ≡ false
-    none k = bit-high 0 k 0 (lit< tt) zero-le
-
     zero-and : shares n x y ≡ false → bitAnd x y ≡ 0
     zero-and h =
         same-bits n (bitAnd x y) 0 (omega (arith, and-le-l x y)) (omega arith)
-        (λ k g. bit-and k x y ∙ shares-some n x y h k g ∙ sym (none k))
+        (λ k g. bit-and k x y ∙ shares-some n x y h k g ∙ sym (bit-none k))
 
     go : Dec (bitAnd x y ≡ 0) → (b : Bool) → shares n x y ≡ b → shares n x y ≡ not (eqb (bitAnd x y) 0)
     go (yes e) b h =
-        rw (eq-eqb (bitAnd x y) 0 e) (shares-none n x y (λ k g. sym (bit-and k x y) ∙ ap (bit k) e ∙ none k))
+        rw (eq-eqb (bitAnd x y) 0 e) (shares-none n x y (λ k g. sym (bit-and k x y) ∙ ap (bit k) e ∙ bit-none k))
     go (no e) true h = h ∙ ap not (sym (ne-eqb (bitAnd x y) 0 e))
     go (no e) false h = absurd (e (zero-and h))
 

@@ -16,6 +16,10 @@ withSet m x = bitOr x m
 unfoldable pub withClear : ℕ → ℕ → ℕ
 withClear m x = x - bitAnd x m
 
+-- the bits that are set before and clear after
+abbrev pub fallen : ℕ → ℕ → ℕ
+fallen before after = withClear after before
+
 -- x with bit k as b says
 unfoldable pub withBit : ℕ → Bool → ℕ → ℕ
 withBit k b x = if b then withSet (2 ^ k) x else withClear (2 ^ k) x

@@ -2,7 +2,7 @@
 ghost use mathlib.Core.Path.{_≡_};
 ghost use Rattle.clocks.specs.Clocks.{if_then_else_};
 ghost use Rattle.clocks.specs.Forecasts.{numberOf, soonerOf};
-ghost use Rattle.clocks.specs.Bits.{bit as bitOf, withSet, withClear, merge as mergeOf, shares as sharesOf};
+ghost use Rattle.clocks.specs.Bits.{bit as bitOf, withSet, withClear, fallen as fallenOf, merge as mergeOf, shares as sharesOf};
 
 // When a flag is set or a line asserted: so many clocks from now, or never.
 pub enum Forecast {
@@ -75,6 +75,13 @@ pub fn with_mask(mask: u8, on: bool, x: u8) -> u8
     ensures { λ r. ⌜ r ≡ (if on then withSet mask x else withClear mask x) ⌝ }
 {
     if on { x | mask } else { x & !mask }
+}
+
+// The bits that are set before and clear after.
+pub fn fallen(before: u8, after: u8) -> u8
+    ensures { λ r. ⌜ r ≡ fallenOf before after ⌝ }
+{
+    before & !after
 }
 
 // Whether some bit is set in both bytes.

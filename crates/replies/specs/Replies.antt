@@ -5,13 +5,14 @@ use mathlib.Core.List.{List, [], _∷_, _++_}
 use lib.ListN.{length, take, drop}
 use Rattle.replies.specs.Hex.{hexOf, longOf}
 use Rattle.replies.specs.declared.Reply.{Reply}
-use Rattle.replies.specs.declared.Reply.the-variants.{Refused, Done, Data, Ahead}
+use Rattle.replies.specs.declared.Reply.the-variants.{Refused, Done, Data, Read, Ahead}
 
--- a refusal is its number alone; all else is 00, the line byte, and what was read or forecast
+-- a refusal is its number alone; all else is 00, the line byte, and what was read, read and cleared, or forecast
 unfoldable pub told : Reply → List ℕ
 told (Refused n) = hexOf n
 told (Done l) = hexOf 0 ++ hexOf l
 told (Data l b) = hexOf 0 ++ hexOf l ++ hexOf b
+told (Read l b m) = hexOf 0 ++ hexOf l ++ hexOf b ++ hexOf m
 told (Ahead l n) = hexOf 0 ++ hexOf l ++ longOf n
 
 -- each line ends in LF

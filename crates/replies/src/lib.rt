@@ -5,11 +5,13 @@ use puts::put_told;
 
 mod puts;
 
-// What a frame gets: a refusal's number; or the line byte, alone, before a byte that was read, or before a forecast's number.
+// What a frame gets: a refusal's number; or the line byte, alone, before a byte that was read, before such a byte and the mask of the
+// flags that the read cleared, or before a forecast's number.
 pub enum Reply {
     Refused(u8),
     Done(u8),
     Data(u8, u8),
+    Read(u8, u8, u8),
     Ahead(u8, u32),
 }
 

@@ -53,6 +53,11 @@ pub(crate) fn put_told(out: &mut [u8], at: usize, reply: Reply) -> usize
             let a = put_done(out, at, line);
             put_byte(out, a, b)
         }
+        Reply::Read(line, b, cleared) => {
+            let a = put_done(out, at, line);
+            let c = put_byte(out, a, b);
+            put_byte(out, c, cleared)
+        }
         Reply::Ahead(line, n) => {
             let a = put_done(out, at, line);
             put_long(out, a, n)

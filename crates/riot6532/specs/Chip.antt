@@ -6,17 +6,19 @@ use Rattle.clocks.specs.Clocks.{after}
 use Rattle.calls.specs.Calls.{Typed32}
 use Rattle.calls.specs.declared.Call32.{Call32}
 use Rattle.calls.specs.declared.Call32.the-variants.{Reset, Write, Read, Pins, Run, Forecast}
-use Rattle.chips.specs.Chips.{Chip, Clocked, Lined}
+use Rattle.chips.specs.Chips.{Chip, Clocked, Lined, answer, cleared}
 use Rattle.ports.specs.Ports.{linesOf}
 use Rattle.riot6532.specs.Record.{wellFormed, beside, powerUp, resetOf}
 use Rattle.riot6532.specs.Flags.{irqOf, Raised}
-use Rattle.riot6532.specs.Access.{dataOf, readOf, writeOf}
+use Rattle.riot6532.specs.Access.{flagsOf, dataOf, readOf, writeOf}
 use Rattle.riot6532.specs.Pins.{pinsOf}
 use Rattle.riot6532.specs.Clock.{clockOf}
 use Rattle.riot6532.specs.declared.Io.{Io}
 use Rattle.riot6532.specs.declared.Riot.{Riot}
 use Rattle.riot6532.specs.declared.Answer.{Answer}
 use Rattle.riot6532.specs.declared.IoAnswer.{IoAnswer}
+use Rattle.riot6532.specs.declared.Reading.{Reading}
+use Rattle.riot6532.specs.declared.IoReading.{IoReading}
 
 -- the byte that a call reads, and the record that it leaves
 abbrev pub givesOf : Call32 → Riot → ℕ
@@ -98,3 +100,10 @@ lined =
       forecast = Forecast;
       largest = largestForecast;
     }
+
+-- a read: the mask of the flags that it cleared, as a read of the flags numbers them, and the answer to the call
+unfoldable pub readingOf : ℕ → Riot → Reading
+readingOf a v = record { cleared = cleared chip (λ u. flagsOf (u .io)) (Read a) v; answer = answer chip (Read a) v }
+
+abbrev pub wholeReading : List ℕ → IoReading → Reading
+wholeReading m r = record { cleared = r .cleared; answer = whole m (r .answer) }

@@ -1,8 +1,15 @@
--- The interrupt line.
+-- The flags and the interrupt line.
 use mathlib.Core.Path.{_≡_}
-use mathlib.Core.Bool.{Bool, true, _&&_, _||_}
+use mathlib.Core.Bool.{Bool, true, false, _&&_, _||_}
 use mathlib.Core.Logic.{_⊎_}
+use Prim.Native.Nat.{ℕ}
+use lib.Dec.{eqb}
+use Rattle.clocks.specs.Clocks.{if_then_else_}
 use Rattle.riot6532.specs.declared.Io.{Io}
+
+-- flag 7 is the timer's, flag 6 PA7's, and there is no other
+abbrev pub flagAt : ℕ → Io → Bool
+flagAt k io = if eqb k 7 then io .timer .flag else if eqb k 6 then io .pa7 .flag else false
 
 -- the line is asserted while a flag is set that is enabled
 abbrev pub irqOf : Io → Bool

@@ -53,7 +53,7 @@ impl Io {
         )
     }
 
-    fn flags(self) -> u8
+    pub(crate) fn flags(self) -> u8
         ensures { λ r. ⌜ r ≡ flagsOf self ⌝ }
     {
         choose8(self.timer.flag, 128, 0) + choose8(self.pa7.flag, 64, 0)

@@ -6,10 +6,11 @@ ghost use Rattle.clocks.specs.Clocks.{if_then_else_};
 ghost use Rattle.chips.specs.Chips.{answer, Foretold};
 ghost use Rattle.interval.specs.Timer.{wellTimed};
 ghost use Rattle.riot6532.specs.Record.{beside};
-ghost use Rattle.riot6532.specs.Chip.{chip, clocked, lined, acceptedIo, refusedIo, whole};
+ghost use Rattle.riot6532.specs.Chip.{chip, clocked, lined, acceptedIo, refusedIo, whole, readingOf, wholeReading};
 use crate::Io;
 use crate::IoAnswer;
 use crate::IoOutlook;
+use crate::IoReading;
 use calls::Call32;
 use clocks::Forecast;
 use clocks::bit;
@@ -66,19 +67,29 @@ impl Io {
         self.accepted(0)
     }
 
-    pub fn read(self, ram: &[u8; 128], address: u8) -> IoAnswer
-        ensures { λ r. ⌜ whole (now (ram .entry)) r ≡ answer chip (Call32.Read address) (beside (now (ram .entry)) self) ⌝ }
+    pub fn read(self, ram: &[u8; 128], address: u8) -> IoReading
+        ensures { λ r. ⌜ wholeReading (now (ram .entry)) r ≡ readingOf address (beside (now (ram .entry)) self) ⌝ }
     {
         let number = self.refusal();
         if number != 0 {
-            return self.refused(number);
+            return IoReading {
+                cleared: 0,
+                answer: self.refused(number),
+            };
         }
         if !bit(7, address) {
             let i = (address % 128) as usize;
-            return self.accepted(ram[i]);
+            return IoReading {
+                cleared: 0,
+                answer: self.accepted(ram[i]),
+            };
         }
         let data = self.data(address);
-        self.after_read(address).accepted(data)
+        let left = self.after_read(address);
+        IoReading {
+            cleared: clocks::fallen(self.flags(), left.flags()),
+            answer: left.accepted(data),
+        }
     }
 
     pub fn write(self, ram: &mut [u8; 128], address: u8, value: u8) -> IoAnswer

@@ -2,7 +2,7 @@
 ghost use mathlib.Core.Path.{_≡_};
 ghost use Rattle.chips.specs.Chips.{answer, Foretold};
 ghost use Rattle.riot6532.specs.Record.{powerUp};
-ghost use Rattle.riot6532.specs.Chip.{chip, clocked, lined, largestForecast, whole as wholeOf};
+ghost use Rattle.riot6532.specs.Chip.{chip, clocked, lined, largestForecast, whole as wholeOf, readingOf, wholeReading};
 use calls::Call32;
 use clocks::Forecast;
 use interval::Timer;
@@ -42,6 +42,12 @@ pub struct Answer {
     pub riot: Riot,
 }
 
+// What a read gives back: `cleared` has the flags that it took from set to clear, the timer's in bit 7 and PA7's in bit 6.
+pub struct Reading {
+    pub cleared: u8,
+    pub answer: Answer,
+}
+
 // What a forecast gives back.
 pub struct Outlook {
     pub forecast: Forecast,
@@ -56,6 +62,11 @@ pub struct IoAnswer {
     pub pa: u8,
     pub pb: u8,
     pub io: Io,
+}
+
+pub struct IoReading {
+    pub cleared: u8,
+    pub answer: IoAnswer,
 }
 
 pub struct IoOutlook {
@@ -75,6 +86,18 @@ impl IoAnswer {
             pa: self.pa,
             pb: self.pb,
             riot: Riot { ram, io },
+        }
+    }
+}
+
+impl IoReading {
+    fn whole(self, ram: [u8; 128]) -> Reading
+        ensures { λ r. ⌜ r ≡ wholeReading ram self ⌝ }
+    {
+        let cleared = self.cleared;
+        Reading {
+            cleared,
+            answer: self.answer.whole(ram),
         }
     }
 }
@@ -115,8 +138,8 @@ impl Riot {
         self.io.reset().whole(ram)
     }
 
-    pub fn read(self, address: u8) -> Answer
-        ensures { λ r. ⌜ r ≡ answer chip (Call32.Read address) self ⌝ }
+    pub fn read(self, address: u8) -> Reading
+        ensures { λ r. ⌜ r ≡ readingOf address self ⌝ }
     {
         let ram = self.ram;
         self.io.read(&ram, address).whole(ram)

@@ -14,7 +14,7 @@ use Rattle.frames.specs.declared.Frame.{Frame}
 use Rattle.frames.specs.declared.Frame.the-variants.{Unknown, To22, To32, To45}
 use Rattle.frames.proofs.Demands.{frames-typed}
 use Rattle.replies.specs.declared.Reply.{Reply}
-use Rattle.replies.specs.declared.Reply.the-variants.{Refused, Done, Data, Ahead}
+use Rattle.replies.specs.declared.Reply.the-variants.{Refused, Done, Data, Read, Ahead}
 use Rattle.chips.specs.Chips as Chips
 use Rattle.chips.specs.Chips.{Chip, answer, at-power-up, by}
 use Rattle.chips.proofs.Chips.{Lawful, by-refusal, reached-well, answers}
@@ -24,7 +24,7 @@ use Rattle.riot6532.specs.Chip as Chip32
 use Rattle.riot6532.proofs.Lawful as Lawful32
 use Rattle.crtc6545.specs.Chip as Chip45
 use Rattle.crtc6545.proofs.Lawful as Lawful45
-use Rattle.session.specs.Steps.{Kind, nothing, a-byte, a-forecast, told, replied, kind22, kind32, kind45, powerUp, stepOf}
+use Rattle.session.specs.Steps.{Kind, nothing, a-byte, a-byte-and-mask, a-forecast, told, replied, kind22, kind32, kind45, powerUp, stepOf}
 use Rattle.session.specs.Sessions.{nextOf, nextAll}
 use Rattle.session.specs.Demands
 use Rattle.session.specs.declared.Bench.{Bench}
@@ -59,12 +59,14 @@ number : Reply → ℕ
 number (Refused n) = n
 number (Done l) = 0
 number (Data l x) = 0
+number (Read l x m) = 0
 number (Ahead l n) = 0
 
 told-none : (k : Kind) (l d n : ℕ) → number (told k l d n) ≡ 0
 unfolding number
 told-none nothing l d n = refl
 told-none a-byte l d n = refl
+told-none (a-byte-and-mask m) l d n = refl
 told-none a-forecast l d n = refl
 
 number-replied : (n : ℕ) (k : Kind) (l d x : ℕ) → number (replied n (told k l d x)) ≡ n
@@ -85,8 +87,8 @@ module _ (P : Frame → ℕ → Type 0) (b : Bench) where
       → (f : Frame) → P f (number (stepOf b f .reply))
   unfolding stepOf number
   says-number none via riot crtc Unknown = none
-  says-number none via riot crtc (To22 c) = rw (number-replied (answer Chip22.chip c (b .via) .refusal) (kind22 c) _ _ _) (via c)
-  says-number none via riot crtc (To32 c) = rw (number-replied (answer Chip32.chip c (b .riot) .refusal) (kind32 c) _ _ _) (riot c)
+  says-number none via riot crtc (To22 c) = rw (number-replied (answer Chip22.chip c (b .via) .refusal) (kind22 c (b .via)) _ _ _) (via c)
+  says-number none via riot crtc (To32 c) = rw (number-replied (answer Chip32.chip c (b .riot) .refusal) (kind32 c (b .riot)) _ _ _) (riot c)
   says-number none via riot crtc (To45 c) = rw (number-replied (answer Chip45.chip c (b .crtc) .refusal) (kind45 c (b .crtc)) _ _ _) (crtc c)
 
 -- a reached chip answers no call with 1

@@ -5,7 +5,7 @@ use mathlib.Core.List.{List}
 use Prim.Native.Nat.{ℕ}
 use Rattle.clocks.specs.Clocks.{if_then_else_}
 use Rattle.replies.specs.declared.Reply.{Reply}
-use Rattle.replies.specs.declared.Reply.the-variants.{Done, Data}
+use Rattle.replies.specs.declared.Reply.the-variants.{Done, Data, Read}
 use Rattle.calls.specs.declared.Call22.{Call22}
 use Rattle.calls.specs.declared.Call32.{Call32}
 use Rattle.calls.specs.declared.Call45.{Call45}
@@ -13,14 +13,16 @@ use Rattle.chips.specs.Chips.{next}
 use Rattle.via6522.specs.Chip as Chip22
 use Rattle.via6522.specs.declared.Via.{Via}
 use Rattle.via6522.specs.declared.Answer as Answer22
+use Rattle.via6522.specs.declared.Reading as Reading22
 use Rattle.riot6532.specs.Record.{beside}
 use Rattle.riot6532.specs.Chip as Chip32
 use Rattle.riot6532.specs.declared.Io.{Io}
 use Rattle.riot6532.specs.declared.IoAnswer.{IoAnswer}
+use Rattle.riot6532.specs.declared.IoReading.{IoReading}
 use Rattle.crtc6545.specs.Chip as Chip45
 use Rattle.crtc6545.specs.declared.Crtc.{Crtc}
 use Rattle.crtc6545.specs.declared.Answer as Answer45
-use Rattle.crtc6545.specs.declared.Reading.{Reading}
+use Rattle.crtc6545.specs.declared.Reading as Reading45
 use Rattle.session.specs.Steps.{replied, lineOf, lines45, reply22, reply32, reply45}
 use Rattle.session.specs.declared.Bench.{Bench}
 use Rattle.session.specs.declared.Core.{Core}
@@ -39,18 +41,26 @@ coreOf b = record { via = b .via; io = b .riot .io; crtc = b .crtc }
 
 -- ---- one chip
 
--- an answer taken apart: what is left of the chip, and the reply, with nothing or with a byte behind the line byte
+-- an answer taken apart: what is left of the chip, and the reply, with nothing behind the line byte or with what was read and cleared
 abbrev pub done22 : Answer22.Answer → After22
 done22 a = record { via = a .via; reply = replied (a .refusal) (Done (lineOf (a .irq))) }
 
-abbrev pub data22 : Answer22.Answer → After22
-data22 a = record { via = a .via; reply = replied (a .refusal) (Data (lineOf (a .irq)) (a .«data»)) }
+abbrev pub data22 : Reading22.Reading → After22
+data22 r =
+    record {
+      via = r .answer .via;
+      reply = replied (r .answer .refusal) (Read (lineOf (r .answer .irq)) (r .answer .«data») (r .cleared));
+    }
 
 abbrev pub done32 : IoAnswer → After32
 done32 a = record { io = a .io; reply = replied (a .refusal) (Done (lineOf (a .irq))) }
 
-abbrev pub data32 : IoAnswer → After32
-data32 a = record { io = a .io; reply = replied (a .refusal) (Data (lineOf (a .irq)) (a .«data»)) }
+abbrev pub data32 : IoReading → After32
+data32 r =
+    record {
+      io = r .answer .io;
+      reply = replied (r .answer .refusal) (Read (lineOf (r .answer .irq)) (r .answer .«data») (r .cleared));
+    }
 
 abbrev pub done45 : Answer45.Answer → After45
 done45 a = record { crtc = a .crtc; reply = replied (a .refusal) (Done (lines45 a)) }
@@ -59,7 +69,7 @@ done45 a = record { crtc = a .crtc; reply = replied (a .refusal) (Done (lines45 
 abbrev pub shown45 : Bool → ℕ → ℕ → Reply
 shown45 undriven lines byte = if undriven then Done lines else Data lines byte
 
-abbrev pub data45 : Reading → After45
+abbrev pub data45 : Reading45.Reading → After45
 data45 r =
     record {
       crtc = r .answer .crtc;

@@ -13,7 +13,7 @@ use Rattle.calls.specs.declared.Call45.the-variants as Crtc
 use Rattle.frames.specs.declared.Frame.{Frame}
 use Rattle.frames.specs.declared.Frame.the-variants.{Unknown, To22, To32, To45}
 use Rattle.replies.specs.declared.Reply.{Reply}
-use Rattle.replies.specs.declared.Reply.the-variants.{Refused, Done, Data, Ahead}
+use Rattle.replies.specs.declared.Reply.the-variants.{Refused, Done, Data, Read, Ahead}
 use Rattle.chips.specs.Chips.{answer, next, line}
 use Rattle.via6522.specs.Chip as Chip22
 use Rattle.via6522.specs.declared.Via.{Via}
@@ -27,15 +27,18 @@ use Rattle.session.specs.declared.Stepped.{Stepped}
 
 -- ---- what a reply tells
 
--- what follows the line byte of an accepted call: nothing, the byte that was read, or a forecast's number
+-- what follows the line byte of an accepted call: nothing, the byte that was read, that byte and the mask of the flags that the read
+-- cleared, or a forecast's number
 pub data Kind : Type 0 where
   nothing : Kind
   a-byte : Kind
+  a-byte-and-mask : ℕ → Kind
   a-forecast : Kind
 
 abbrev pub told : Kind → ℕ → ℕ → ℕ → Reply
 told nothing l d n = Done l
 told a-byte l d n = Data l d
+told (a-byte-and-mask m) l d n = Read l d m
 told a-forecast l d n = Ahead l n
 
 -- a refused call is answered by its number alone
@@ -52,13 +55,13 @@ lines45 a =
 
 -- ---- the 6522
 
-abbrev pub kind22 : Call22 → Kind
-kind22 Via.Reset = nothing
-kind22 (Via.Write r x) = nothing
-kind22 (Via.Read r) = a-byte
-kind22 (Via.Pins pa pb control) = nothing
-kind22 (Via.Run n) = nothing
-kind22 Via.Forecast = a-forecast
+abbrev pub kind22 : Call22 → Via → Kind
+kind22 Via.Reset v = nothing
+kind22 (Via.Write r x) v = nothing
+kind22 (Via.Read r) v = a-byte-and-mask (Chip22.readingOf r v .cleared)
+kind22 (Via.Pins pa pb control) v = nothing
+kind22 (Via.Run n) v = nothing
+kind22 Via.Forecast v = a-forecast
 
 -- its forecast, by looking ahead: no record that its types allow has the line asserted first after more than 65,537 clocks
 unfoldable pub forecast22 : Via → ℕ
@@ -67,17 +70,18 @@ forecast22 v = numberOf (firstFrom 65538 0 (λ k. line Chip22.chip Chip22.clocke
 abbrev pub reply22 : Via → Call22 → Reply
 reply22 v c =
     replied (answer Chip22.chip c v .refusal)
-    (told (kind22 c) (lineOf (answer Chip22.chip c v .irq)) (answer Chip22.chip c v .«data») (forecast22 v))
+    (told (kind22 c v) (lineOf (answer Chip22.chip c v .irq)) (answer Chip22.chip c v .«data») (forecast22 v))
 
 -- ---- the 6532
 
-abbrev pub kind32 : Call32 → Kind
-kind32 Riot.Reset = nothing
-kind32 (Riot.Write a x) = nothing
-kind32 (Riot.Read a) = a-byte
-kind32 (Riot.Pins pa pb) = nothing
-kind32 (Riot.Run n) = nothing
-kind32 Riot.Forecast = a-forecast
+-- RAM and ports among what is read
+abbrev pub kind32 : Call32 → Riot → Kind
+kind32 Riot.Reset v = nothing
+kind32 (Riot.Write a x) v = nothing
+kind32 (Riot.Read a) v = a-byte-and-mask (Chip32.readingOf a v .cleared)
+kind32 (Riot.Pins pa pb) v = nothing
+kind32 (Riot.Run n) v = nothing
+kind32 Riot.Forecast v = a-forecast
 
 -- no record that its types allow has the line asserted first after more than 262,144 clocks
 unfoldable pub forecast32 : Riot → ℕ
@@ -86,7 +90,7 @@ forecast32 v = numberOf (firstFrom 262145 0 (λ k. line Chip32.chip Chip32.clock
 abbrev pub reply32 : Riot → Call32 → Reply
 reply32 v c =
     replied (answer Chip32.chip c v .refusal)
-    (told (kind32 c) (lineOf (answer Chip32.chip c v .irq)) (answer Chip32.chip c v .«data») (forecast32 v))
+    (told (kind32 c v) (lineOf (answer Chip32.chip c v .irq)) (answer Chip32.chip c v .«data») (forecast32 v))
 
 -- ---- the 6545
 

@@ -52,13 +52,15 @@ fn done22(answer: via6522::Answer) -> After22
     }
 }
 
-fn data22(answer: via6522::Answer) -> After22
-    ensures { λ r. ⌜ r ≡ data22Of answer ⌝ }
+fn data22(reading: via6522::Reading) -> After22
+    ensures { λ r. ⌜ r ≡ data22Of reading ⌝ }
 {
+    let answer = reading.answer;
     let via = answer.via;
+    let reply = Reply::Read(line(answer.irq), answer.data, reading.cleared);
     After22 {
         via,
-        reply: replied(answer.refusal, Reply::Data(line(answer.irq), answer.data)),
+        reply: replied(answer.refusal, reply),
     }
 }
 
@@ -98,13 +100,15 @@ fn done32(answer: riot6532::IoAnswer) -> After32
     }
 }
 
-fn data32(answer: riot6532::IoAnswer) -> After32
-    ensures { λ r. ⌜ r ≡ data32Of answer ⌝ }
+fn data32(reading: riot6532::IoReading) -> After32
+    ensures { λ r. ⌜ r ≡ data32Of reading ⌝ }
 {
+    let answer = reading.answer;
     let io = answer.io;
+    let reply = Reply::Read(line(answer.irq), answer.data, reading.cleared);
     After32 {
         io,
-        reply: replied(answer.refusal, Reply::Data(line(answer.irq), answer.data)),
+        reply: replied(answer.refusal, reply),
     }
 }
 

@@ -58,12 +58,14 @@ fn one_shot() {
     let loaded = latched.via.write(5, 0); // its high latch: T1 is loaded with 3, and armed
     let ahead = loaded.via.forecast(); // ahead.forecast is Forecast::In(4)
     let later = loaded.via.run(4); // later.irq is true
-    let read = later.via.read(4); // read.data is 0xFF, read.irq is false: the read cleared the flag
+    let read = later.via.read(4); // read.cleared is 0x40: the read cleared T1's flag
+    let shown = read.answer; // shown.data is 0xFF, shown.irq is false
     let forecast = ahead.forecast;
     say_forecast(b"ahead.forecast", forecast);
     say_line(b"later.irq", later.irq);
-    say_byte(b"read.data", read.data);
-    say_line(b"read.irq", read.irq);
+    say_byte(b"read.cleared", read.cleared);
+    say_byte(b"shown.data", shown.data);
+    say_line(b"shown.irq", shown.irq);
 }
 
 fn main() {

@@ -7,13 +7,14 @@ use native.Mathlib.Decide.{decLt}
 use native.Mathlib.Omega.{arith}
 use lib.Dec.{eqb, lit<}
 use Rattle.clocks.specs.Clocks.{if_then_else_}
-use Rattle.clocks.specs.Bits.{bit, withBit}
+use Rattle.clocks.specs.Bits.{bit, withBit, withClear}
 use Rattle.clocks.specs.Forecasts.{soonerOf}
 use Rattle.clocks.specs.declared.Forecast.{Forecast}
 use Rattle.clocks.specs.declared.Forecast.the-variants.{Never, In}
 use Rattle.clocks.proofs.Forecasts.{comes-one, AtMost, most-sooner, most-gated, most-in}
-use Rattle.clocks.proofs.Bits.{bit-high, bit-with, shares-found, shares-by}
-use Rattle.chips.specs.Chips.{Reached, Foretold}
+use Rattle.clocks.proofs.Bits.{bit-high, bit-with, bit-clear, shares-found, shares-by}
+use Rattle.calls.specs.declared.Call22.the-variants.{Read}
+use Rattle.chips.specs.Chips.{Reached, Foretold, next}
 use Rattle.chips.proofs.Chips as Chips
 use Rattle.ports.specs.Ports.{linesFor}
 use Rattle.ports.proofs.Demands as Ports
@@ -25,7 +26,7 @@ use Rattle.via6522.specs.Flags.{irqOf}
 use Rattle.via6522.specs.Ports.{linesB, shownA, shownB}
 use Rattle.via6522.specs.Clock.{timersOf, withTimers}
 use Rattle.via6522.specs.Closed.{steady, soonest}
-use Rattle.via6522.specs.Chip.{chip, clocked, Raised, largestForecast, lined}
+use Rattle.via6522.specs.Chip.{chip, clocked, Raised, largestForecast, lined, readingOf}
 use Rattle.via6522.specs.Demands
 use Rattle.via6522.specs.declared.Via.{Via}
 use Rattle.via6522.specs.declared.Answer.{Answer}
@@ -154,3 +155,24 @@ t1-period v n w m = rw (each-after n v) (rounds (timersOf v .t1) m (formed v w .
 pub t1-disarmed : Demands.T1-disarmed
 unfolding timersOf withTimers
 t1-disarmed v n f a = rw (each-after n v) (let h = idle (timersOf v .t1) f a n in (h .disarmed, flag1 _ _ (v .ifr) ∙ h .flag, h .level))
+
+pub read-answers : Demands.Read-answers
+unfolding readingOf
+read-answers r v = refl
+
+pub cleared-by-bit : Demands.Cleared-by-bit
+unfolding readingOf
+cleared-by-bit r k v = bit-clear k (next chip (Read r) v .ifr) (v .ifr)
+
+pub refused-clears-none : Demands.Refused-clears-none
+unfolding readingOf
+refused-clears-none r v z = Chips.refused-clears chip lawful (λ u. u .ifr) (Read r) v z
+
+-- no mask has more than the record's own flags, and an ill-formed record is refused
+pub cleared-seven : Demands.Cleared-seven
+unfolding readingOf withClear
+cleared-seven r v = go (wellFormed v) refl
+  where
+    go : (b : Bool) → wellFormed v ≡ b → readingOf r v .cleared < 128
+    go true w = omega (arith, formed v w .flags)
+    go false w = rw (Chips.kept-clears chip lawful (λ u. u .ifr) (Read r) v (Chips.ill-leaves chip lawful (Read r) v w)) (lit< tt)

@@ -8,7 +8,7 @@ use Rattle.ports.specs.Ports.{linesOf}
 use Rattle.calls.specs.Calls.{Typed22}
 use Rattle.calls.specs.declared.Call22.{Call22}
 use Rattle.calls.specs.declared.Call22.the-variants.{Reset, Write, Read, Pins, Run, Forecast}
-use Rattle.chips.specs.Chips.{Chip, Clocked, Lined}
+use Rattle.chips.specs.Chips.{Chip, Clocked, Lined, answer, cleared}
 use Rattle.via6522.specs.Record.{wellFormed, powerUp, resetOf}
 use Rattle.via6522.specs.Flags.{irqOf}
 use Rattle.via6522.specs.Ports.{linesB}
@@ -17,6 +17,7 @@ use Rattle.via6522.specs.Pins.{pinsAsks, pinsOf}
 use Rattle.via6522.specs.Clock.{clockOf}
 use Rattle.via6522.specs.declared.Via.{Via}
 use Rattle.via6522.specs.declared.Answer.{Answer}
+use Rattle.via6522.specs.declared.Reading.{Reading}
 
 -- the number that a call's operands are refused with, 0 for none
 abbrev pub asksOf : Call22 → Via → ℕ
@@ -93,3 +94,7 @@ largestForecast = 65537
 
 abbrev pub lined : Lined chip
 lined = record { irq = irqOf; Raised = Raised; asserted = λ r. r .irq; forecast = Forecast; largest = largestForecast }
+
+-- a read: the mask of the flags that it cleared, as IFR numbers them, and the answer to the call
+unfoldable pub readingOf : ℕ → Via → Reading
+readingOf r v = record { cleared = cleared chip (λ u. u .ifr) (Read r) v; answer = answer chip (Read r) v }

@@ -1,15 +1,17 @@
 -- What the three demands and the requests ask of the 6522 beyond the promise of each entry. proofs/Demands.antt has a proof of each statement, under its name in small letters.
 use mathlib.Core.Path.{_≡_}
-use mathlib.Core.Bool.{true, false, _&&_}
+use mathlib.Core.Bool.{true, false, not, _&&_}
 use Prim.Native.Nat.{ℕ, _+_, _-_, _%_, _<_}
 use lib.Dec.{eqb}
 use Rattle.clocks.specs.Clocks.{if_then_else_, after}
 use Rattle.clocks.specs.Bits.{bit}
+use Rattle.calls.specs.declared.Call22.the-variants.{Read}
 use Rattle.chips.specs.Chips
+use Rattle.chips.specs.Chips.{answer}
 use Rattle.via6522.specs.Record.{wellFormed, powerUp, resetOf}
 use Rattle.via6522.specs.Ports.{linesB, shownA, shownB}
 use Rattle.via6522.specs.Clock.{clockOf}
-use Rattle.via6522.specs.Chip.{chip, clocked, lined}
+use Rattle.via6522.specs.Chip.{chip, clocked, lined, readingOf}
 use Rattle.via6522.specs.declared.Via.{Via}
 
 -- what is asked of every chip
@@ -65,3 +67,20 @@ T1-disarmed =
     (v : Via) (n : ℕ) → bit 6 (v .acr) ≡ false → v .t1 .armed ≡ false
     → let u = after n clockOf v in
     (u .t1 .armed ≡ false) × (bit 6 (u .ifr) ≡ bit 6 (v .ifr)) × (u .t1 .level ≡ v .t1 .level)
+
+-- request 03: a read's answer, beside its mask, is that of the call
+abbrev pub Read-answers : Type 0
+Read-answers = (r : ℕ) (v : Via) → readingOf r v .answer ≡ answer chip (Read r) v
+
+-- bit k of the mask is set exactly when flag k is set before the read and clear after it
+abbrev pub Cleared-by-bit : Type 0
+Cleared-by-bit =
+    (r k : ℕ) (v : Via) → bit k (readingOf r v .cleared) ≡ (bit k (v .ifr) && not (bit k (readingOf r v .answer .via .ifr)))
+
+-- a refused read has the mask 0
+abbrev pub Refused-clears-none : Type 0
+Refused-clears-none = (r : ℕ) (v : Via) → (readingOf r v .answer .refusal ≡ 0 → ⊥) → readingOf r v .cleared ≡ 0
+
+-- bit 7 is in no mask, whatever record is handed in
+abbrev pub Cleared-seven : Type 0
+Cleared-seven = (r : ℕ) (v : Via) → readingOf r v .cleared < 128

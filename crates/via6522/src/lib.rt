@@ -5,7 +5,7 @@ ghost use Rattle.clocks.specs.Clocks.{if_then_else_};
 ghost use Rattle.calls.specs.declared.Call22.{Call22};
 ghost use Rattle.chips.specs.Chips.{answer, Foretold};
 ghost use Rattle.via6522.specs.Record.{powerUp, wellFormed};
-ghost use Rattle.via6522.specs.Chip.{accepted as acceptedOf, refused as refusedOf, chip, clocked, lined, largestForecast};
+ghost use Rattle.via6522.specs.Chip.{accepted as acceptedOf, refused as refusedOf, chip, clocked, lined, largestForecast, readingOf};
 use clocks::Forecast;
 use clocks::choose8;
 use ports::Port;
@@ -55,6 +55,12 @@ pub struct Answer {
     pub pa: u8,
     pub pb: u8,
     pub via: Via,
+}
+
+// What a read gives back: `cleared` has the flags that it took from set to clear, in the bits of IFR.
+pub struct Reading {
+    pub cleared: u8,
+    pub answer: Answer,
 }
 
 // What a forecast gives back.
@@ -170,17 +176,24 @@ impl Via {
         self.accepted(0)
     }
 
-    pub fn read(mut self, register: u8) -> Answer
-        ensures { λ r. ⌜ r ≡ answer chip (Call22.Read register) self ⌝ }
+    pub fn read(mut self, register: u8) -> Reading
+        ensures { λ r. ⌜ r ≡ readingOf register self ⌝ }
     {
         let number = self.refusal(access::read_asks(register));
         if number != 0 {
-            return self.refused(number);
+            return Reading {
+                cleared: 0,
+                answer: self.refused(number),
+            };
         }
         let data = self.data(register);
+        let before = self.ifr;
         let clears = flags::read_clears(register, self.pcr);
-        self.ifr = clocks::with_mask(clears, false, self.ifr);
-        self.accepted(data)
+        self.ifr = clocks::with_mask(clears, false, before);
+        Reading {
+            cleared: clocks::fallen(before, self.ifr),
+            answer: self.accepted(data),
+        }
     }
 
     pub fn write(mut self, register: u8, value: u8) -> Answer

@@ -1,19 +1,22 @@
 use borrow.Author.Needs.{needs}
 use denote.Ref.{now}
 use mathlib.Core.Path.{_∙_, ap, ap₂, sym}
-use Rattle.calls.specs.declared.Call32.the-variants.{Read}
-use Rattle.chips.proofs.Chips.{accepts, refuses}
+use Rattle.clocks.specs.Bits.{fallen}
+use Rattle.clocks.proofs.Bits.{fallen-none}
 use Rattle.riot6532.specs.Record.{beside}
-use Rattle.riot6532.specs.Chip.{chip, acceptedIo, whole}
-use Rattle.riot6532.specs.Access.{dataOf, readOf}
+use Rattle.riot6532.specs.Chip.{acceptedIo, whole}
+use Rattle.riot6532.specs.Access.{flagsOf, dataOf, readOf}
+use Rattle.riot6532.specs.declared.Io.{Io}
+use Rattle.riot6532.proofs.Readings.{reading, reads, reads-none}
 use Rattle.riot6532.proofs.Io.read.Statement.{statement}
 use Rattle.riot6532.proofs.Io.read.Tie as tie
 
 returns : tie.Need-returns
 returns c =
     let a = c .before .before .before .args in
-    ap (whole (now (a .ram))) (c .refused .ensures)
-    ∙ sym (refuses chip (Read (a .address)) (beside (now (a .ram)) (a .self)) _ (c .before .before .refusal .ensures) (c .before .if1 .taken))
+    let m = now (a .ram) in
+    ap (λ r. reading 0 (whole m r)) (c .refused .ensures)
+    ∙ sym (reads-none (a .address) (beside m (a .self)) _ (c .before .before .refusal .ensures) (c .before .if1 .taken))
 
 returns-2 : tie.Need-returns-2
 unfolding dataOf readOf
@@ -21,21 +24,27 @@ returns-2 c =
     let d = c .before .before .before in
     let e = d .before in
     let a = e .before .before .args in
-    ap (whole (now (a .ram))) (c .accepted .ensures)
+    let m = now (a .ram) in
+    ap₂ reading (sym (fallen-none (flagsOf (a .self)))) (ap (whole m) (c .accepted .ensures))
     ∙ sym
-    (accepts chip (Read (a .address)) (beside (now (a .ram)) (a .self)) _ (e .before .refusal .ensures) (e .if1 .left)
+    (reads (a .address) (beside m (a .self)) _ (e .before .refusal .ensures) (e .if1 .left)
     ∙ rw (← d .bit .ensures, c .before .before .if2 .taken))
 
 returns-3 : tie.Need-returns-3
 unfolding dataOf readOf
 returns-3 c =
-    let d = c .before .before .before .before in
+    let s = c .before .before .before in
+    let d = s .before .before .before .before in
     let e = d .before in
     let a = e .before .before .args in
-    ap (whole (now (a .ram))) (c .accepted2 .ensures ∙ ap₂ acceptedIo (c .before .before .data .ensures) (c .before .after-read .ensures))
+    let m = now (a .ram) in
+    let left = s .before .after-read .ensures in
+    ap₂ reading
+    (c .before .fallen .ensures ∙ ap₂ fallen (s .flags .ensures) (c .before .before .flags2 .ensures ∙ ap flagsOf left))
+    (ap (whole m) (c .accepted2 .ensures ∙ ap₂ acceptedIo (s .before .before .data .ensures) left))
     ∙ sym
-    (accepts chip (Read (a .address)) (beside (now (a .ram)) (a .self)) _ (e .before .refusal .ensures) (e .if1 .left)
-    ∙ rw (← d .bit .ensures, c .before .before .before .if2 .left))
+    (reads (a .address) (beside m (a .self)) _ (e .before .refusal .ensures) (e .if1 .left)
+    ∙ rw (← d .bit .ensures, s .before .before .before .if2 .left))
 
 pub read-spec : {M : Type 1} → statement M
-read-spec = tie.close (tie.spec (λ c κs. search needs) (λ c κs. search needs) returns (λ c κs. search needs) (λ c. search needs) (λ c. search needs) (λ c κs. search needs) returns-2 (λ c κs. search needs) (λ c κs. search needs) (λ c κs. search needs) returns-3)
+read-spec = tie.close (tie.spec (λ c κs. search needs) (λ c κs. search needs) returns (λ c κs. search needs) (λ c. search needs) (λ c. search needs) (λ c κs. search needs) returns-2 (λ c κs. search needs) (λ c κs. search needs) (λ c κs. search needs) (λ c κs. search needs) (λ c κs. search needs) (λ c κs. search needs) returns-3)

@@ -1,7 +1,9 @@
 use borrow.Author.Needs.{needs}
 use mathlib.Core.Path.{_∙_, ap}
 use Rattle.via6522.specs.declared.Answer.{Answer}
+use Rattle.via6522.specs.declared.Reading.{Reading}
 use Rattle.session.specs.Core.{done22, data22}
+use Rattle.session.proofs.Told.{read22}
 use Rattle.session.proofs.calling.on22.Statement.{statement}
 use Rattle.session.proofs.calling.on22.Tie as tie
 
@@ -12,7 +14,10 @@ returns-2 : tie.Need-returns-2
 returns-2 c = c .done222 .ensures ∙ ap (λ (a : Answer). done22 a) (c .before .write .ensures) ∙ rw (c .before .before .before .call .given .1)
 
 returns-3 : tie.Need-returns-3
-returns-3 c = c .data22 .ensures ∙ ap (λ (a : Answer). data22 a) (c .before .read .ensures) ∙ rw (c .before .before .before .call2 .given .1)
+returns-3 c =
+    c .data22 .ensures
+    ∙ ap (λ (r : Reading). data22 r) (c .before .read .ensures)
+    ∙ rw (c .before .before .before .call2 .given .1) (read22 _ _)
 
 returns-4 : tie.Need-returns-4
 returns-4 c = c .done223 .ensures ∙ ap (λ (a : Answer). done22 a) (c .before .pins .ensures) ∙ rw (c .before .before .before .call3 .given .1)

@@ -1,7 +1,7 @@
 use borrow.Author.Needs.{needs}
 use mathlib.Core.Path.{refl}
-use Rattle.session.specs.Steps.{nothing, a-byte}
-use Rattle.session.proofs.Told.{after-told}
+use Rattle.session.specs.Steps.{nothing}
+use Rattle.session.proofs.Told.{after-told, read32}
 use Rattle.session.proofs.calling.on32.Statement.{statement}
 use Rattle.session.proofs.calling.on32.Tie as tie
 
@@ -12,7 +12,7 @@ returns-2 : tie.Need-returns-2
 returns-2 c = rw (c .before .before .before .before .call .given .1, c .done322 .ensures) (after-told _ _ _ _ _ (c .before .write .ensures) nothing refl)
 
 returns-3 : tie.Need-returns-3
-returns-3 c = rw (c .before .before .before .before .call2 .given .1, c .data32 .ensures) (after-told _ _ _ _ _ (c .before .read .ensures) a-byte refl)
+returns-3 c = rw (c .before .before .before .before .call2 .given .1, c .data32 .ensures) (read32 _ _ _ _ _ (c .before .read .ensures))
 
 returns-4 : tie.Need-returns-4
 returns-4 c = rw (c .before .before .before .call3 .given .1, c .done323 .ensures) (after-told _ _ _ _ _ (c .before .pins .ensures _) nothing refl)
