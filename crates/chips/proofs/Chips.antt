@@ -8,16 +8,16 @@ use native.Mathlib.Decide.{decLe, ℕ-discrete}
 use lib.Dec.{eqb, leb}
 use borrow.Author.Tests.{eq-eqb, ne-eqb, le-leb, lt-leb}
 use Rattle.clocks.specs.Clocks.{if_then_else_, after}
-use Rattle.clocks.specs.Bits.{fallen}
+use Rattle.clocks.specs.Bits.{gone}
 use Rattle.clocks.specs.Forecasts.{comes}
 use Rattle.clocks.specs.declared.Forecast.{Forecast}
 use Rattle.clocks.specs.declared.Forecast.the-variants.{Never, In}
 use Rattle.clocks.proofs.Tests.{on-true, on-false}
-use Rattle.clocks.proofs.Bits.{fallen-none}
+use Rattle.clocks.proofs.Bits.{gone-none}
 use Rattle.clocks.proofs.Clocks.{after-add, after-keeps, run-calls}
 use Rattle.clocks.proofs.Forecasts.{comes-one, told-least, told-never}
 use Rattle.chips.specs.Chips
-use Rattle.chips.specs.Chips.{Chip, first, answer, next, Reached, at-power-up, by, Answers, Clocked, Runs, Lined, line, Foretold, Lines, cleared}
+use Rattle.chips.specs.Chips.{Chip, first, answer, next, Reached, at-power-up, by, Answers, Clocked, Runs, Lined, line, Foretold, Lines, clearedBy}
 
 -- ---- an answer, where the number that applies first is known
 
@@ -300,18 +300,25 @@ module _ (C : Chip) (S : Lawful C) (T : Clocked C) (K : Ticks C T) (L : Lined C)
 -- ---- what a call cleared
 module _ (C : Chip) (S : Lawful C) (flags : C .State → ℕ) where
   -- nothing, where it leaves the record as it was
-  pub kept-clears : (c : C .Call) (v : C .State) → next C c v ≡ v → cleared C flags c v ≡ 0
-  kept-clears c v e = ap (λ (u : C .State). fallen (flags v) (flags u)) e ∙ fallen-none (flags v)
+  pub kept-clears : (c : C .Call) (v : C .State) → next C c v ≡ v → clearedBy C flags c v ≡ 0
+  kept-clears c v e = ap (λ (u : C .State). gone (flags v) (flags u)) e ∙ gone-none (flags v)
 
-  pub refused-clears : (c : C .Call) (v : C .State) → (C .number (answer C c v) ≡ 0 → ⊥) → cleared C flags c v ≡ 0
+  pub refused-clears : (c : C .Call) (v : C .State) → (C .number (answer C c v) ≡ 0 → ⊥) → clearedBy C flags c v ≡ 0
   refused-clears c v z = kept-clears c v (ap (C .left) (refused-leaves C S c v z) ∙ S .left-refused (C .number (answer C c v)) v)
 
-  -- the mask, where the number that applies first is known
-  module _ (c : C .Call) (v : C .State) (k : ℕ) (e : k ≡ first C c v) where
-    pub clears : k ≡ 0 → cleared C flags c v ≡ fallen (flags v) (flags (C .leaves c v))
-    clears z =
-        ap (λ (u : C .State). fallen (flags v) (flags u))
-        (ap (C .left) (accepts C c v k e z) ∙ S .left-accepted (C .gives c v) (C .leaves c v))
+  -- a read that tells mask and answer, where the number that applies first is known
+  module _ {R : Type 0} (reading : ℕ → C .Answer → R) (c : C .Call) (v : C .State) (k : ℕ) (e : k ≡ first C c v) where
+    pub reads :
+        k ≡ 0
+        → reading (clearedBy C flags c v) (answer C c v)
+        ≡ reading (gone (flags v) (flags (C .leaves c v))) (C .accepted (C .gives c v) (C .leaves c v))
+    reads z =
+        let a = accepts C c v k e z in
+        ap₂ reading
+        (ap (λ (u : C .State). gone (flags v) (flags u)) (ap (C .left) a ∙ S .left-accepted (C .gives c v) (C .leaves c v)))
+        a
 
-    pub clears-none : (k ≡ 0 → ⊥) → cleared C flags c v ≡ 0
-    clears-none z = kept-clears c v (ap (C .left) (refuses C c v k e z) ∙ S .left-refused k v)
+    pub reads-none : (k ≡ 0 → ⊥) → reading (clearedBy C flags c v) (answer C c v) ≡ reading 0 (C .refused k v)
+    reads-none z =
+        let r = refuses C c v k e z in
+        ap₂ reading (kept-clears c v (ap (C .left) r ∙ S .left-refused k v)) r

@@ -6,7 +6,7 @@ use mathlib.Core.Logic.{_↔_}
 use Prim.Native.Nat.{ℕ, suc, _+_, _-_, _<_, _≤_}
 use lib.Dec.{eqb}
 use Rattle.clocks.specs.Clocks.{if_then_else_, after}
-use Rattle.clocks.specs.Bits.{fallen}
+use Rattle.clocks.specs.Bits.{gone}
 use Rattle.clocks.specs.Forecasts.{comes}
 use Rattle.clocks.specs.declared.Forecast.{Forecast}
 use Rattle.clocks.specs.declared.Forecast.the-variants.{Never, In}
@@ -211,5 +211,5 @@ module _ (C : Chip) (T : Clocked C) (L : Lined C) where
 -- ---- request 03: what a call cleared
 
 -- the mask of the flags that are set before a call and clear after it, where a record has its flags in one byte
-abbrev pub cleared : (C : Chip) → (C .State → ℕ) → C .Call → C .State → ℕ
-cleared C flags c v = fallen (flags v) (flags (next C c v))
+abbrev pub clearedBy : (C : Chip) → (C .State → ℕ) → C .Call → C .State → ℕ
+clearedBy C flags c v = gone (flags v) (flags (next C c v))

@@ -12,7 +12,7 @@ use borrow.Author.Tests.{eq-eqb, ne-eqb, eqb-true}
 use mathlib.Core.Logic.{_⊎_, inl, inr}
 use Rattle.clocks.proofs.Tests.{both, either, neither}
 use Rattle.clocks.specs.Clocks.{if_then_else_}
-use Rattle.clocks.specs.Bits.{bit, withSet, withClear, fallen, withBit, merge, shares}
+use Rattle.clocks.specs.Bits.{bit, withSet, withClear, gone, withBit, merge, shares}
 
 -- what holds of both digits holds of a number below 2
 by-digit : (P : ℕ → Type 0) → P 0 → P 1 → (d : ℕ) → d < 2 → P d
@@ -159,9 +159,9 @@ all-bits x y e =
     (omega (arith, below y, pow-mono {i = y} {j = x + y} (omega arith)))
     (λ k l. e k)
 
--- nothing falls from a number to itself
-pub fallen-none : (x : ℕ) → fallen x x ≡ 0
-fallen-none x = all-bits _ _ (λ k. bit-clear k x x ∙ apart (bit k x) ∙ sym (bit-none k))
+-- nothing is gone where nothing changed
+pub gone-none : (x : ℕ) → gone x x ≡ 0
+gone-none x = all-bits _ _ (λ k. bit-clear k x x ∙ apart (bit k x) ∙ sym (bit-none k))
   where
     apart : (b : Bool) → (b && not b) ≡ false
     apart true = refl

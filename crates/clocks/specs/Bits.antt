@@ -17,8 +17,8 @@ unfoldable pub withClear : ℕ → ℕ → ℕ
 withClear m x = x - bitAnd x m
 
 -- the bits that are set before and clear after
-abbrev pub fallen : ℕ → ℕ → ℕ
-fallen before after = withClear after before
+abbrev pub gone : ℕ → ℕ → ℕ
+gone before after = withClear after before
 
 -- x with bit k as b says
 unfoldable pub withBit : ℕ → Bool → ℕ → ℕ

@@ -2,7 +2,7 @@
 ghost use mathlib.Core.Path.{_≡_};
 ghost use Rattle.clocks.specs.Clocks.{if_then_else_};
 ghost use Rattle.clocks.specs.Forecasts.{numberOf, soonerOf};
-ghost use Rattle.clocks.specs.Bits.{bit as bitOf, withSet, withClear, fallen as fallenOf, merge as mergeOf, shares as sharesOf};
+ghost use Rattle.clocks.specs.Bits.{bit as bitOf, withSet, withClear, gone as goneOf, merge as mergeOf, shares as sharesOf};
 
 // When a flag is set or a line asserted: so many clocks from now, or never.
 pub enum Forecast {
@@ -78,8 +78,8 @@ pub fn with_mask(mask: u8, on: bool, x: u8) -> u8
 }
 
 // The bits that are set before and clear after.
-pub fn fallen(before: u8, after: u8) -> u8
-    ensures { λ r. ⌜ r ≡ fallenOf before after ⌝ }
+pub fn gone(before: u8, after: u8) -> u8
+    ensures { λ r. ⌜ r ≡ goneOf before after ⌝ }
 {
     before & !after
 }

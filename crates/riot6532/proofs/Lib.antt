@@ -1,5 +1,4 @@
 pub mod Lines
 pub mod Keeps
 pub mod Lawful
-pub mod Readings
 pub mod Demands

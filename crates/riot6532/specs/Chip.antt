@@ -6,7 +6,7 @@ use Rattle.clocks.specs.Clocks.{after}
 use Rattle.calls.specs.Calls.{Typed32}
 use Rattle.calls.specs.declared.Call32.{Call32}
 use Rattle.calls.specs.declared.Call32.the-variants.{Reset, Write, Read, Pins, Run, Forecast}
-use Rattle.chips.specs.Chips.{Chip, Clocked, Lined, answer, cleared}
+use Rattle.chips.specs.Chips.{Chip, Clocked, Lined, answer, clearedBy}
 use Rattle.ports.specs.Ports.{linesOf}
 use Rattle.riot6532.specs.Record.{wellFormed, beside, powerUp, resetOf}
 use Rattle.riot6532.specs.Flags.{irqOf, Raised}
@@ -103,7 +103,8 @@ lined =
 
 -- a read: the mask of the flags that it cleared, as a read of the flags numbers them, and the answer to the call
 unfoldable pub readingOf : ℕ → Riot → Reading
-readingOf a v = record { cleared = cleared chip (λ u. flagsOf (u .io)) (Read a) v; answer = answer chip (Read a) v }
+readingOf a v = record { cleared = clearedBy chip (λ u. flagsOf (u .io)) (Read a) v; answer = answer chip (Read a) v }
 
+-- a reading with the RAM put to its answer
 abbrev pub wholeReading : List ℕ → IoReading → Reading
 wholeReading m r = record { cleared = r .cleared; answer = whole m (r .answer) }

@@ -34,6 +34,7 @@ Power-up-reset = resetOf powerUp ≡ powerUp
 abbrev pub Whole-one : Type 0
 Whole-one = (m n : List ℕ) (r s : IoAnswer) → whole m r ≡ whole n s → (m ≡ n) × (r ≡ s)
 
+-- and so do any two readings
 abbrev pub Whole-reading-one : Type 0
 Whole-reading-one = (m n : List ℕ) (r s : IoReading) → wholeReading m r ≡ wholeReading n s → (m ≡ n) × (r ≡ s)
 

@@ -87,7 +87,7 @@ impl Io {
         let data = self.data(address);
         let left = self.after_read(address);
         IoReading {
-            cleared: clocks::fallen(self.flags(), left.flags()),
+            cleared: clocks::gone(self.flags(), left.flags()),
             answer: left.accepted(data),
         }
     }

@@ -169,9 +169,9 @@ unfolding readingOf
 refused-clears-none r v z = Chips.refused-clears chip lawful (λ u. u .ifr) (Read r) v z
 
 -- no mask has more than the record's own flags, and an ill-formed record is refused
-pub cleared-seven : Demands.Cleared-seven
+pub mask-seven : Demands.Mask-seven
 unfolding readingOf withClear
-cleared-seven r v = go (wellFormed v) refl
+mask-seven r v = go (wellFormed v) refl
   where
     go : (b : Bool) → wellFormed v ≡ b → readingOf r v .cleared < 128
     go true w = omega (arith, formed v w .flags)

@@ -8,7 +8,7 @@ use Rattle.ports.specs.Ports.{linesOf}
 use Rattle.calls.specs.Calls.{Typed22}
 use Rattle.calls.specs.declared.Call22.{Call22}
 use Rattle.calls.specs.declared.Call22.the-variants.{Reset, Write, Read, Pins, Run, Forecast}
-use Rattle.chips.specs.Chips.{Chip, Clocked, Lined, answer, cleared}
+use Rattle.chips.specs.Chips.{Chip, Clocked, Lined, answer, clearedBy}
 use Rattle.via6522.specs.Record.{wellFormed, powerUp, resetOf}
 use Rattle.via6522.specs.Flags.{irqOf}
 use Rattle.via6522.specs.Ports.{linesB}
@@ -97,4 +97,4 @@ lined = record { irq = irqOf; Raised = Raised; asserted = λ r. r .irq; forecast
 
 -- a read: the mask of the flags that it cleared, as IFR numbers them, and the answer to the call
 unfoldable pub readingOf : ℕ → Via → Reading
-readingOf r v = record { cleared = cleared chip (λ u. u .ifr) (Read r) v; answer = answer chip (Read r) v }
+readingOf r v = record { cleared = clearedBy chip (λ u. u .ifr) (Read r) v; answer = answer chip (Read r) v }

@@ -82,5 +82,5 @@ abbrev pub Refused-clears-none : Type 0
 Refused-clears-none = (r : ℕ) (v : Via) → (readingOf r v .answer .refusal ≡ 0 → ⊥) → readingOf r v .cleared ≡ 0
 
 -- bit 7 is in no mask, whatever record is handed in
-abbrev pub Cleared-seven : Type 0
-Cleared-seven = (r : ℕ) (v : Via) → readingOf r v .cleared < 128
+abbrev pub Mask-seven : Type 0
+Mask-seven = (r : ℕ) (v : Via) → readingOf r v .cleared < 128

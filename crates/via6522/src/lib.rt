@@ -191,7 +191,7 @@ impl Via {
         let clears = flags::read_clears(register, self.pcr);
         self.ifr = clocks::with_mask(clears, false, before);
         Reading {
-            cleared: clocks::fallen(before, self.ifr),
+            cleared: clocks::gone(before, self.ifr),
             answer: self.accepted(data),
         }
     }

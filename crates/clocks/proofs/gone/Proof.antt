@@ -1,11 +1,11 @@
 use mathlib.Core.Path.{sym}
 use native.Mathlib.Omega.{arith}
 use Rattle.clocks.proofs.Bits.{clear-and}
-use Rattle.clocks.proofs.fallen.Statement.{statement}
-use Rattle.clocks.proofs.fallen.Tie as tie
+use Rattle.clocks.proofs.gone.Statement.{statement}
+use Rattle.clocks.proofs.gone.Tie as tie
 
 returns : tie.Need-returns
 returns c = sym (clear-and (c .args .after) (c .args .before) (omega arith) (omega arith))
 
-pub fallen-spec : {M : Type 1} → statement M
-fallen-spec = tie.close (tie.spec returns)
+pub gone-spec : {M : Type 1} → statement M
+gone-spec = tie.close (tie.spec returns)
