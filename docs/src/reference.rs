@@ -30,7 +30,7 @@ type Checked<T> = Result<T, u8>;
 /// What a read of the 6522 or the 6532 gives.
 struct Reading {
     data: u8,
-    /// The flags that this read took from set to clear, each in the bit where
+    /// The flags that this read found set and left clear, each in the bit where
     /// a read of the flags shows it.
     cleared: u8,
 }

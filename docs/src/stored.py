@@ -537,7 +537,7 @@ def riot_pa7():
 
 
 def riot_cleared():
-    """What a read cleared: RAM, ports, timer and flags with each set of flags, enabled or not."""
+    """What a read cleared: reads of RAM, ports, timer and flags, with either flag set or not, both enabled or neither."""
     yield reset(RIOT)
     for enabled in (False, True):
         yield write(RIOT, 0x86 if enabled else 0x84, 0)

@@ -308,17 +308,17 @@ module _ (C : Chip) (S : Lawful C) (flags : C .State → ℕ) where
 
   -- a read that tells mask and answer, where the number that applies first is known
   module _ {R : Type 0} (reading : ℕ → C .Answer → R) (c : C .Call) (v : C .State) (k : ℕ) (e : k ≡ first C c v) where
-    pub reads :
+    pub reading-accepted :
         k ≡ 0
         → reading (clearedBy C flags c v) (answer C c v)
         ≡ reading (gone (flags v) (flags (C .leaves c v))) (C .accepted (C .gives c v) (C .leaves c v))
-    reads z =
+    reading-accepted z =
         let a = accepts C c v k e z in
         ap₂ reading
         (ap (λ (u : C .State). gone (flags v) (flags u)) (ap (C .left) a ∙ S .left-accepted (C .gives c v) (C .leaves c v)))
         a
 
-    pub reads-none : (k ≡ 0 → ⊥) → reading (clearedBy C flags c v) (answer C c v) ≡ reading 0 (C .refused k v)
-    reads-none z =
+    pub reading-refused : (k ≡ 0 → ⊥) → reading (clearedBy C flags c v) (answer C c v) ≡ reading 0 (C .refused k v)
+    reading-refused z =
         let r = refuses C c v k e z in
         ap₂ reading (kept-clears c v (ap (C .left) r ∙ S .left-refused k v)) r

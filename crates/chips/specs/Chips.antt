@@ -210,6 +210,6 @@ module _ (C : Chip) (T : Clocked C) (L : Lined C) where
 
 -- ---- request 03: what a call cleared
 
--- the mask of the flags that are set before a call and clear after it, where a record has its flags in one byte
+-- the mask of the flags that are set before a call and clear after it; `flags` gives those of a record in one byte
 abbrev pub clearedBy : (C : Chip) → (C .State → ℕ) → C .Call → C .State → ℕ
 clearedBy C flags c v = gone (flags v) (flags (next C c v))

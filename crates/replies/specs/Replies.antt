@@ -7,7 +7,7 @@ use Rattle.replies.specs.Hex.{hexOf, longOf}
 use Rattle.replies.specs.declared.Reply.{Reply}
 use Rattle.replies.specs.declared.Reply.the-variants.{Refused, Done, Data, Read, Ahead}
 
--- a refusal is its number alone; all else is 00, the line byte, and what was read, read and cleared, or forecast
+-- a refusal is its number alone; all else is 00, the line byte, and what was read, with the mask where there is one, or forecast
 unfoldable pub told : Reply → List ℕ
 told (Refused n) = hexOf n
 told (Done l) = hexOf 0 ++ hexOf l

@@ -16,14 +16,13 @@ use Rattle.interval.proofs.Demands.{most-well}
 use Rattle.riot6532.specs.Record.{wellFormed}
 use Rattle.riot6532.specs.Flags.{flagAt}
 use Rattle.riot6532.specs.Access.{flagsOf}
-use Rattle.riot6532.specs.Chip.{chip, clocked, lined, readingOf}
+use Rattle.riot6532.specs.Chip.{chip, clocked, lined, flags, readingOf}
 use Rattle.riot6532.specs.Demands
 use Rattle.riot6532.specs.declared.Io.{Io}
 use Rattle.riot6532.specs.declared.Riot.{Riot}
 use Rattle.riot6532.specs.declared.Answer.{Answer}
 use Rattle.riot6532.specs.declared.IoAnswer.{IoAnswer}
 use Rattle.riot6532.specs.declared.Reading.{Reading}
-use Rattle.riot6532.specs.declared.IoReading.{IoReading}
 use Rattle.riot6532.proofs.Lawful.{lawful, ticks, watched, reached-timer, most}
 
 pub answers : Demands.Answers
@@ -88,4 +87,4 @@ cleared-by-bit a k v =
 
 pub refused-clears-none : Demands.Refused-clears-none
 unfolding readingOf
-refused-clears-none a v z = Chips.refused-clears chip lawful (λ u. flagsOf (u .io)) (Read a) v z
+refused-clears-none a v z = Chips.refused-clears chip lawful flags (Read a) v z

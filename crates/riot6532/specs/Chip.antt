@@ -101,9 +101,13 @@ lined =
       largest = largestForecast;
     }
 
--- a read: the mask of the flags that it cleared, as a read of the flags numbers them, and the answer to the call
+-- the flags are in the bits in which a read of the flags gives them
+abbrev pub flags : Riot → ℕ
+flags v = flagsOf (v .io)
+
+-- a read: the mask of the flags that it cleared, and the answer to the call
 unfoldable pub readingOf : ℕ → Riot → Reading
-readingOf a v = record { cleared = clearedBy chip (λ u. flagsOf (u .io)) (Read a) v; answer = answer chip (Read a) v }
+readingOf a v = record { cleared = clearedBy chip flags (Read a) v; answer = answer chip (Read a) v }
 
 -- a reading with the RAM put to its answer
 abbrev pub wholeReading : List ℕ → IoReading → Reading

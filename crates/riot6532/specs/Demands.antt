@@ -42,12 +42,12 @@ Whole-reading-one = (m n : List ℕ) (r s : IoReading) → wholeReading m r ≡ 
 abbrev pub Read-answers : Type 0
 Read-answers = (a : ℕ) (v : Riot) → readingOf a v .answer ≡ answer chip (Read a) v
 
--- bit k of the mask is set exactly when flag k is set before the read and clear after it
+-- bit k of the mask says whether the read found flag k set and left it clear
 abbrev pub Cleared-by-bit : Type 0
 Cleared-by-bit =
     (a k : ℕ) (v : Riot)
     → bit k (readingOf a v .cleared) ≡ (flagAt k (v .io) && not (flagAt k (readingOf a v .answer .riot .io)))
 
--- a refused read has the mask 0
+-- the mask of a refused read is 0
 abbrev pub Refused-clears-none : Type 0
 Refused-clears-none = (a : ℕ) (v : Riot) → (readingOf a v .answer .refusal ≡ 0 → ⊥) → readingOf a v .cleared ≡ 0

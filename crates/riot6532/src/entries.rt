@@ -86,8 +86,10 @@ impl Io {
         }
         let data = self.data(address);
         let left = self.after_read(address);
+        let before = self.flags();
+        let after = left.flags();
         IoReading {
-            cleared: clocks::gone(self.flags(), left.flags()),
+            cleared: clocks::gone(before, after),
             answer: left.accepted(data),
         }
     }

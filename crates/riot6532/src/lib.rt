@@ -42,7 +42,7 @@ pub struct Answer {
     pub riot: Riot,
 }
 
-// What a read gives back: `cleared` has the flags that it took from set to clear, the timer's in bit 7 and PA7's in bit 6.
+// What a read gives back: `cleared` has the flags that it found set and left clear, the timer's in bit 7 and PA7's in bit 6.
 pub struct Reading {
     pub cleared: u8,
     pub answer: Answer,

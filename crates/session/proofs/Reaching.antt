@@ -1,7 +1,6 @@
 -- Whatever lines come, each chip of the bench stays a reached one; and which number a reply has.
 use mathlib.Core.Path.{_≡_, refl, sym, ap, _∙_}
 use mathlib.Core.Bool.{Bool, true, false, true≢false}
-use mathlib.Core.Logic.{_↔_}
 use mathlib.Core.List.{List, [], _∷_}
 use Prim.Native.Nat.{ℕ}
 use native.Mathlib.Omega.{arith}
@@ -17,7 +16,7 @@ use Rattle.replies.specs.declared.Reply.{Reply}
 use Rattle.replies.specs.declared.Reply.the-variants.{Refused, Done, Data, Read, Ahead}
 use Rattle.chips.specs.Chips as Chips
 use Rattle.chips.specs.Chips.{Chip, answer, at-power-up, by}
-use Rattle.chips.proofs.Chips.{Lawful, by-refusal, reached-well, answers}
+use Rattle.chips.proofs.Chips.{Lawful, reached-well, answers}
 use Rattle.via6522.specs.Chip as Chip22
 use Rattle.via6522.proofs.Lawful as Lawful22
 use Rattle.riot6532.specs.Chip as Chip32

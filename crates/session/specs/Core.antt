@@ -41,7 +41,7 @@ coreOf b = record { via = b .via; io = b .riot .io; crtc = b .crtc }
 
 -- ---- one chip
 
--- an answer taken apart: what is left of the chip, and the reply, with nothing behind the line byte or with what was read and cleared
+-- an answer taken apart: what is left of the chip, and the reply, with nothing behind the line byte, or with the byte that was read and the mask
 abbrev pub done22 : Answer22.Answer → After22
 done22 a = record { via = a .via; reply = replied (a .refusal) (Done (lineOf (a .irq))) }
 

@@ -74,7 +74,7 @@ reply22 v c =
 
 -- ---- the 6532
 
--- RAM and ports among what is read
+-- every read shows its mask, one of RAM or of a port too
 abbrev pub kind32 : Call32 → Riot → Kind
 kind32 Riot.Reset v = nothing
 kind32 (Riot.Write a x) v = nothing

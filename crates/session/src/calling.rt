@@ -36,6 +36,12 @@ fn line(irq: bool) -> u8
     choose8(irq, 1, 0)
 }
 
+fn read(refusal: u8, irq: bool, data: u8, cleared: u8) -> Reply
+    ensures { λ r. ⌜ r ≡ repliedOf refusal (Reply.Read (lineOf irq) «data» cleared) ⌝ }
+{
+    replied(refusal, Reply::Read(line(irq), data, cleared))
+}
+
 fn ahead(refusal: u8, irq: bool, forecast: Forecast) -> Reply
     ensures { λ r. ⌜ r ≡ repliedOf refusal (Reply.Ahead (lineOf irq) (numberOf forecast)) ⌝ }
 {
@@ -57,10 +63,9 @@ fn data22(reading: via6522::Reading) -> After22
 {
     let answer = reading.answer;
     let via = answer.via;
-    let reply = Reply::Read(line(answer.irq), answer.data, reading.cleared);
     After22 {
         via,
-        reply: replied(answer.refusal, reply),
+        reply: read(answer.refusal, answer.irq, answer.data, reading.cleared),
     }
 }
 
@@ -105,10 +110,9 @@ fn data32(reading: riot6532::IoReading) -> After32
 {
     let answer = reading.answer;
     let io = answer.io;
-    let reply = Reply::Read(line(answer.irq), answer.data, reading.cleared);
     After32 {
         io,
-        reply: replied(answer.refusal, reply),
+        reply: read(answer.refusal, answer.irq, answer.data, reading.cleared),
     }
 }
 

@@ -26,7 +26,7 @@ use Rattle.via6522.specs.Flags.{irqOf}
 use Rattle.via6522.specs.Ports.{linesB, shownA, shownB}
 use Rattle.via6522.specs.Clock.{timersOf, withTimers}
 use Rattle.via6522.specs.Closed.{steady, soonest}
-use Rattle.via6522.specs.Chip.{chip, clocked, Raised, largestForecast, lined, readingOf}
+use Rattle.via6522.specs.Chip.{chip, clocked, Raised, largestForecast, lined, flags, readingOf}
 use Rattle.via6522.specs.Demands
 use Rattle.via6522.specs.declared.Via.{Via}
 use Rattle.via6522.specs.declared.Answer.{Answer}
@@ -166,7 +166,7 @@ cleared-by-bit r k v = bit-clear k (next chip (Read r) v .ifr) (v .ifr)
 
 pub refused-clears-none : Demands.Refused-clears-none
 unfolding readingOf
-refused-clears-none r v z = Chips.refused-clears chip lawful (λ u. u .ifr) (Read r) v z
+refused-clears-none r v z = Chips.refused-clears chip lawful flags (Read r) v z
 
 -- no mask has more than the record's own flags, and an ill-formed record is refused
 pub mask-seven : Demands.Mask-seven
@@ -175,4 +175,4 @@ mask-seven r v = go (wellFormed v) refl
   where
     go : (b : Bool) → wellFormed v ≡ b → readingOf r v .cleared < 128
     go true w = omega (arith, formed v w .flags)
-    go false w = rw (Chips.kept-clears chip lawful (λ u. u .ifr) (Read r) v (Chips.ill-leaves chip lawful (Read r) v w)) (lit< tt)
+    go false w = rw (Chips.kept-clears chip lawful flags (Read r) v (Chips.ill-leaves chip lawful (Read r) v w)) (lit< tt)

@@ -95,6 +95,10 @@ largestForecast = 65537
 abbrev pub lined : Lined chip
 lined = record { irq = irqOf; Raised = Raised; asserted = λ r. r .irq; forecast = Forecast; largest = largestForecast }
 
--- a read: the mask of the flags that it cleared, as IFR numbers them, and the answer to the call
+-- the flags are those of IFR, in its bits
+abbrev pub flags : Via → ℕ
+flags v = v .ifr
+
+-- a read: the mask of the flags that it cleared, and the answer to the call
 unfoldable pub readingOf : ℕ → Via → Reading
-readingOf r v = record { cleared = clearedBy chip (λ u. u .ifr) (Read r) v; answer = answer chip (Read r) v }
+readingOf r v = record { cleared = clearedBy chip flags (Read r) v; answer = answer chip (Read r) v }

@@ -72,12 +72,12 @@ T1-disarmed =
 abbrev pub Read-answers : Type 0
 Read-answers = (r : ℕ) (v : Via) → readingOf r v .answer ≡ answer chip (Read r) v
 
--- bit k of the mask is set exactly when flag k is set before the read and clear after it
+-- bit k of the mask says whether the read found flag k set and left it clear
 abbrev pub Cleared-by-bit : Type 0
 Cleared-by-bit =
     (r k : ℕ) (v : Via) → bit k (readingOf r v .cleared) ≡ (bit k (v .ifr) && not (bit k (readingOf r v .answer .via .ifr)))
 
--- a refused read has the mask 0
+-- the mask of a refused read is 0
 abbrev pub Refused-clears-none : Type 0
 Refused-clears-none = (r : ℕ) (v : Via) → (readingOf r v .answer .refusal ≡ 0 → ⊥) → readingOf r v .cleared ≡ 0
 

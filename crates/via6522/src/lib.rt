@@ -57,7 +57,7 @@ pub struct Answer {
     pub via: Via,
 }
 
-// What a read gives back: `cleared` has the flags that it took from set to clear, in the bits of IFR.
+// What a read gives back: `cleared` has the flags that it found set and left clear, in the bits of IFR.
 pub struct Reading {
     pub cleared: u8,
     pub answer: Answer,

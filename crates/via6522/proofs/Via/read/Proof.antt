@@ -4,11 +4,11 @@ use Rattle.clocks.specs.Clocks.{if_then_else_}
 use mathlib.Core.Path.{_∙_, sym, ap, ap₂}
 use Rattle.clocks.specs.Bits.{withClear, gone}
 use Rattle.calls.specs.declared.Call22.the-variants.{Read}
-use Rattle.chips.proofs.Chips.{reads, reads-none}
+use Rattle.chips.proofs.Chips.{reading-accepted, reading-refused}
 use Rattle.via6522.specs.Record.{wellFormed}
 use Rattle.via6522.specs.Flags.{withIfr}
 use Rattle.via6522.specs.Access.{readOf}
-use Rattle.via6522.specs.Chip.{chip, accepted, readingOf}
+use Rattle.via6522.specs.Chip.{chip, accepted, flags, readingOf}
 use Rattle.via6522.specs.declared.Answer.{Answer}
 use Rattle.via6522.specs.declared.Reading.{Reading}
 use Rattle.via6522.proofs.Lawful.{lawful}
@@ -24,7 +24,7 @@ returns c =
     let s = c .before .before .before in
     let v = s .before .args .self in
     let first = c .before .before .refusal .ensures ∙ ap (λ (k : ℕ). if wellFormed v then k else 1) (s .read-asks .ensures) in
-    ap (reading 0) (c .refused .ensures) ∙ sym (reads-none chip lawful (λ u. u .ifr) reading (Read (s .before .args .register)) v _ first (c .before .if1 .taken))
+    ap (reading 0) (c .refused .ensures) ∙ sym (reading-refused chip lawful flags reading (Read (s .before .args .register)) v _ first (c .before .if1 .taken))
 
 returns-2 : tie.Need-returns-2
 unfolding readOf readingOf
@@ -37,7 +37,7 @@ returns-2 c =
     let ifr = c .before .before .with-mask .ensures ∙ ap (λ (m : ℕ). withClear m (v .ifr)) (c .before .before .before .read-clears .ensures) in
     ap₂ reading (c .before .gone .ensures ∙ ap (gone (v .ifr)) ifr)
     (c .accepted .ensures ∙ ap₂ accepted (d .data .ensures) (ap (λ (x : ℕ). withIfr x v) ifr))
-    ∙ sym (reads chip lawful (λ u. u .ifr) reading (Read r) v _ first (d .before .if1 .left))
+    ∙ sym (reading-accepted chip lawful flags reading (Read r) v _ first (d .before .if1 .left))
 
 pub read-spec : {M : Type 1} → statement M
 read-spec = tie.close (tie.spec (λ c κs. search needs) (λ c κs. search needs) (λ c κs. search needs) returns (λ c κs. search needs) (λ c κs. search needs) (λ c κs. search needs) (λ c κs. search needs) (λ c κs. search needs) returns-2)
