@@ -1,10 +1,10 @@
 -- The statements of specs/Demands.antt, proved.
 use mathlib.Core.Path.{_≡_, refl, ap, ap₂, _∙_}
-use mathlib.Core.Bool.{Bool, true, false, not, _&&_}
-use Prim.Native.Nat.{ℕ, _+_, _<_}
+use mathlib.Core.Bool.{Bool, true, not, _&&_}
+use Prim.Native.Nat.{ℕ, _<_}
 use lib.Dec.{eqb}
 use Rattle.clocks.specs.Clocks.{if_then_else_}
-use Rattle.clocks.specs.Bits.{bit, withSet, withClear, withBit}
+use Rattle.clocks.specs.Bits.{bit, withBit}
 use Rattle.clocks.specs.declared.Forecast.{Forecast}
 use Rattle.clocks.proofs.Bits.{bit-none, bit-clear, bit-with}
 use Rattle.clocks.proofs.Forecasts.{AtMost}
@@ -63,20 +63,12 @@ pub read-answers : Demands.Read-answers
 unfolding readingOf
 read-answers a v = refl
 
--- the byte of the flags is its two bits
-as-bits : (t p : Bool) → (if t then 128 else 0) + (if p then 64 else 0) ≡ withBit 7 t (withBit 6 p 0)
-unfolding withBit withSet withClear
-as-bits true true = refl
-as-bits true false = refl
-as-bits false true = refl
-as-bits false false = refl
-
 flag-bit : (k : ℕ) (io : Io) → bit k (flagsOf io) ≡ flagAt k io
+unfolding flagsOf
 flag-bit k io =
     let t = io .timer .flag in
     let p = io .pa7 .flag in
-    ap (bit k) (as-bits t p)
-    ∙ bit-with 7 t k (withBit 6 p 0)
+    bit-with 7 t k (withBit 6 p 0)
     ∙ ap (λ (q : Bool). if eqb k 7 then t else q) (bit-with 6 p k 0 ∙ ap (λ (q : Bool). if eqb k 6 then p else q) (bit-none k))
 
 pub cleared-by-bit : Demands.Cleared-by-bit

@@ -1,10 +1,10 @@
 -- What an address names, what a read of it gives and leaves, and what a write to it leaves.
 use mathlib.Core.Bool.{false, not}
-use Prim.Native.Nat.{ℕ, _+_, _%_}
+use Prim.Native.Nat.{ℕ, _%_}
 use lib.Dec.{eqb}
 use lib.ListN.{getD, set}
 use Rattle.clocks.specs.Clocks.{if_then_else_}
-use Rattle.clocks.specs.Bits.{bit}
+use Rattle.clocks.specs.Bits.{bit, withBit}
 use Rattle.interval.specs.Timer.{loaded, flagged}
 use Rattle.ports.specs.Ports.{linesOf}
 use Rattle.riot6532.specs.Record.{beside, withTimer, withPa7}
@@ -52,9 +52,9 @@ abbrev pub portData : ℕ → Io → ℕ
 portData k io =
     if eqb k 0 then linesOf (io .a) else if eqb k 1 then io .a .ddr else if eqb k 2 then linesOf (io .b) else io .b .ddr
 
--- both flags in one byte: bit 7 (128) the timer's, bit 6 (64) PA7's
-abbrev pub flagsOf : Io → ℕ
-flagsOf io = (if io .timer .flag then 128 else 0) + (if io .pa7 .flag then 64 else 0)
+-- both flags in one byte: bit 7 is the timer's, bit 6 PA7's, and the others are 0
+unfoldable pub flagsOf : Io → ℕ
+flagsOf io = withBit 7 (io .timer .flag) (withBit 6 (io .pa7 .flag) 0)
 
 -- bit 2 clear: a port or a direction; set: the timer where bit 0 is clear, the flags where it is set
 unfoldable pub ioData : ℕ → Io → ℕ

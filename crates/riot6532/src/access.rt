@@ -5,6 +5,7 @@ ghost use Rattle.riot6532.specs.Access.{portWritten, ioWritten, portData
 use crate::Io;
 use clocks::bit;
 use clocks::choose8;
+use clocks::with_mask;
 use interval::Timer;
 
 impl Io {
@@ -56,7 +57,7 @@ impl Io {
     pub(crate) fn flags(self) -> u8
         ensures { λ r. ⌜ r ≡ flagsOf self ⌝ }
     {
-        choose8(self.timer.flag, 128, 0) + choose8(self.pa7.flag, 64, 0)
+        with_mask(128, self.timer.flag, with_mask(64, self.pa7.flag, 0))
     }
 
     // What a read gives, of the record before it.
