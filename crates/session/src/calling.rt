@@ -36,10 +36,11 @@ fn line(irq: bool) -> u8
     choose8(irq, 1, 0)
 }
 
-fn read(refusal: u8, irq: bool, data: u8, cleared: u8) -> Reply
-    ensures { λ r. ⌜ r ≡ repliedOf refusal (Reply.Read (lineOf irq) «data» cleared) ⌝ }
+// What an accepted read of the 6522 or the 6532 is answered by.
+fn read(irq: bool, data: u8, cleared: u8) -> Reply
+    ensures { λ r. ⌜ r ≡ Reply.Read (lineOf irq) «data» cleared ⌝ }
 {
-    replied(refusal, Reply::Read(line(irq), data, cleared))
+    Reply::Read(line(irq), data, cleared)
 }
 
 fn ahead(refusal: u8, irq: bool, forecast: Forecast) -> Reply
@@ -63,9 +64,10 @@ fn data22(reading: via6522::Reading) -> After22
 {
     let answer = reading.answer;
     let via = answer.via;
+    let reply = read(answer.irq, answer.data, reading.cleared);
     After22 {
         via,
-        reply: read(answer.refusal, answer.irq, answer.data, reading.cleared),
+        reply: replied(answer.refusal, reply),
     }
 }
 
@@ -110,9 +112,10 @@ fn data32(reading: riot6532::IoReading) -> After32
 {
     let answer = reading.answer;
     let io = answer.io;
+    let reply = read(answer.irq, answer.data, reading.cleared);
     After32 {
         io,
-        reply: read(answer.refusal, answer.irq, answer.data, reading.cleared),
+        reply: replied(answer.refusal, reply),
     }
 }
 

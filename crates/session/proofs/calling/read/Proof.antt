@@ -3,7 +3,7 @@ use Rattle.session.proofs.calling.read.Statement.{statement}
 use Rattle.session.proofs.calling.read.Tie as tie
 
 returns : tie.Need-returns
-returns c = rw (c .replied .ensures, c .before .line .ensures)
+returns c = rw (c .line .ensures)
 
 pub read-spec : {M : Type 1} → statement M
-read-spec = tie.close (tie.spec (λ c κs. search needs) (λ c κs. search needs) returns)
+read-spec = tie.close (tie.spec (λ c κs. search needs) returns)
