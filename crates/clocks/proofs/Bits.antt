@@ -36,6 +36,7 @@ pub bit-high : (n k x : ℕ) → x < 2 ^ n → n ≤ k → bit k x ≡ false
 unfolding bit
 bit-high n k x h l = let g : x < 2 ^ k = omega (arith, pow-mono l) in rw (div-eq-of-lt g)
 
+-- 0 has none at all
 pub bit-none : (k : ℕ) → bit k 0 ≡ false
 bit-none k = bit-high 0 k 0 (lit< tt) zero-le
 

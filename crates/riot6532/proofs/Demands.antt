@@ -63,6 +63,7 @@ pub read-answers : Demands.Read-answers
 unfolding readingOf
 read-answers a v = refl
 
+-- the byte of the flags, bit by bit
 flag-bit : (k : ℕ) (io : Io) → bit k (flagsOf io) ≡ flagAt k io
 unfolding flagsOf
 flag-bit k io =
