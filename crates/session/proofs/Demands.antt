@@ -1,6 +1,5 @@
 -- The statements of specs/Demands.antt, proved.
 use Rattle.session.specs.Demands
-use Rattle.session.proofs.Aheads as Aheads
 use Rattle.session.proofs.Cuts as Cuts
 use Rattle.session.proofs.Ones as Ones
 use Rattle.session.proofs.Piecing as Piecing
@@ -34,9 +33,6 @@ two-exact = Reaching.two-exact
 
 pub line-for-line : Demands.Line-for-line
 line-for-line = Answering.line-for-line
-
-pub forecast-told : Demands.Forecast-told
-forecast-told = Aheads.forecast-told
 
 pub feeds-one : Demands.Feeds-one
 feeds-one = Ones.feeds-one

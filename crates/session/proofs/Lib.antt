@@ -1,5 +1,4 @@
-pub mod Aheads
-pub mod Told
+pub mod Moved
 pub mod Feeding
 pub mod Cuts
 pub mod Taking

@@ -23,7 +23,8 @@ use Rattle.riot6532.specs.Chip as Chip32
 use Rattle.riot6532.proofs.Lawful as Lawful32
 use Rattle.crtc6545.specs.Chip as Chip45
 use Rattle.crtc6545.proofs.Lawful as Lawful45
-use Rattle.session.specs.Steps.{Kind, nothing, a-byte, a-byte-and-mask, a-forecast, told, replied, kind22, kind32, kind45, powerUp, stepOf}
+use Rattle.calling.specs.Told.{Kind, nothing, a-byte, a-byte-and-mask, a-forecast, told, replied, kind22, kind32, kind45}
+use Rattle.session.specs.Steps.{powerUp, stepOf}
 use Rattle.session.specs.Sessions.{nextOf, nextAll}
 use Rattle.session.specs.Demands
 use Rattle.session.specs.declared.Bench.{Bench}

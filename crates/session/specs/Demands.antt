@@ -7,17 +7,11 @@ use lib.ListN.{length, take, drop}
 use Rattle.frames.specs.Frames.{frameOf}
 use Rattle.frames.specs.declared.Frame.the-variants.{Unknown}
 use Rattle.replies.specs.declared.Reply.the-variants.{Refused}
-use Rattle.clocks.specs.Forecasts.{numberOf}
-use Rattle.clocks.specs.declared.Forecast.{Forecast}
-use Rattle.chips.specs.Chips.{Reached, Foretold}
+use Rattle.chips.specs.Chips.{Reached}
 use Rattle.via6522.specs.Chip as Chip22
-use Rattle.via6522.specs.declared.Via.{Via}
-use Rattle.via6522.specs.declared.Answer as Answer22
 use Rattle.riot6532.specs.Chip as Chip32
-use Rattle.riot6532.specs.declared.Riot.{Riot}
-use Rattle.riot6532.specs.declared.Answer as Answer32
 use Rattle.crtc6545.specs.Chip as Chip45
-use Rattle.session.specs.Steps.{forecast22, forecast32, powerUp, stepOf}
+use Rattle.session.specs.Steps.{powerUp, stepOf}
 use Rattle.lines.specs.Lines.{ended, open-line, linesOf, joined}
 use Rattle.lines.specs.Keeps.{Keeps}
 use Rattle.session.specs.Sessions.{nextAll, saysAll, session}
@@ -80,14 +74,6 @@ Two-exact = (b : Bench) (l : List ℕ) → (stepOf b (frameOf l) .reply ≡ Refu
 -- one line is written for each line of a file, and nothing after the last one's LF
 abbrev pub Line-for-line : Type 0
 Line-for-line = (s : List ℕ) → (length (ended [] (session s)) ≡ length (linesOf s)) × (open-line [] (session s) ≡ [])
-
--- a session's forecast is the number of the chip's, which is the least number of clocks, or never
-abbrev pub Forecast-told : Type 0
-Forecast-told =
-    ((v : Via) (f : Forecast) (r : Answer22.Answer) → Reached Chip22.chip v → Foretold Chip22.chip Chip22.clocked Chip22.lined v f r
-    → forecast22 v ≡ numberOf f)
-    × ((v : Riot) (f : Forecast) (r : Answer32.Answer) → Reached Chip32.chip v → Foretold Chip32.chip Chip32.clocked Chip32.lined v f r
-    → forecast32 v ≡ numberOf f)
 
 -- any two results that a promise about a buffer allows coincide, all of the buffer among them
 abbrev pub Feeds-one : Type 0

@@ -15,8 +15,6 @@ use riot6532::Io;
 use riot6532::Riot;
 use via6522::Via;
 
-mod calling;
-
 pub struct Bench {
     pub via: Via,
     pub riot: Riot,
@@ -28,22 +26,6 @@ struct Core {
     via: Via,
     io: Io,
     crtc: Crtc,
-}
-
-// What a call leaves of one chip, and its reply.
-struct After22 {
-    via: Via,
-    reply: Reply,
-}
-
-struct After32 {
-    io: Io,
-    reply: Reply,
-}
-
-struct After45 {
-    crtc: Crtc,
-    reply: Reply,
 }
 
 // What a line leaves of the core, and its reply.

@@ -1,6 +1,6 @@
 use borrow.Author.Needs.{needs}
 use Rattle.session.specs.Steps.{stepOf}
-use Rattle.session.proofs.Told.{moved32}
+use Rattle.session.proofs.Moved.{moved32}
 use Rattle.session.proofs.Core.step.Statement.{statement}
 use Rattle.session.proofs.Core.step.Tie as tie
 

@@ -1,0 +1,3 @@
+pub mod Aheads
+pub mod Told
+pub mod Demands

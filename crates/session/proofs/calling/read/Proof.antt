@@ -1,9 +1,0 @@
-use borrow.Author.Needs.{needs}
-use Rattle.session.proofs.calling.read.Statement.{statement}
-use Rattle.session.proofs.calling.read.Tie as tie
-
-returns : tie.Need-returns
-returns c = rw (c .line .ensures)
-
-pub read-spec : {M : Type 1} → statement M
-read-spec = tie.close (tie.spec (λ c κs. search needs) returns)

@@ -1,9 +1,0 @@
-use borrow.Author.Tests.{eq-eqb, ne-eqb}
-use Rattle.session.proofs.calling.replied.Statement.{statement}
-use Rattle.session.proofs.calling.replied.Tie as tie
-
-returns : tie.Need-returns
-returns c = rw (eq-eqb _ 0 (c .if1 .taken))
-
-pub replied-spec : {M : Type 1} → statement M
-replied-spec = tie.close (tie.spec returns (λ c. rw (ne-eqb _ 0 (c .if1 .left))))
