@@ -11,7 +11,6 @@ use Rattle.chips.specs.Chips.{Chip, answer, Clocked, Lined, line, Foretold}
 use Rattle.chips.proofs.Chips.{Lawful, refuses-ill, reached-well}
 use Rattle.calls.specs.declared.Call22.the-variants as Via
 use Rattle.calls.specs.declared.Call32.the-variants as Riot
-use Rattle.via6522.specs.Record as Via6522
 use Rattle.via6522.specs.Chip as Chip22
 use Rattle.via6522.specs.declared.Via.{Via}
 use Rattle.via6522.specs.declared.Answer as Answer22

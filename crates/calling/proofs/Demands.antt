@@ -1,5 +1,5 @@
 -- The statements of specs/Demands.antt, proved.
-use mathlib.Core.Path.{_≡_, sym, ap, _∙_}
+use mathlib.Core.Path.{sym, ap, _∙_}
 use Rattle.riot6532.specs.declared.Riot.{Riot}
 use Rattle.calling.specs.Demands
 use Rattle.calling.proofs.Aheads as Aheads

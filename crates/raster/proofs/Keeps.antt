@@ -20,7 +20,7 @@ use Rattle.raster.specs.declared.Registers.{Registers}
 use Rattle.raster.specs.declared.Line.{Line}
 use Rattle.raster.specs.declared.Frame.{Frame}
 use Rattle.raster.specs.declared.Raster.{Raster}
-use Rattle.raster.proofs.Formed.{FormedRegisters, FormedLine, FormedFrame, Formed, formed, well}
+use Rattle.raster.proofs.Formed.{FormedRegisters, FormedLine, FormedFrame, formed, well}
 
 pub power-up-well : wellRaster rasterUp ≡ true
 unfolding within wellRegisters wellLine wellFrame wellRaster rasterUp bit

@@ -2,7 +2,6 @@ use borrow.Author.Needs.{needs}
 use mathlib.Core.Path.{_∙_, ap}
 use Rattle.crtc6545.specs.declared.Answer.{Answer}
 use Rattle.crtc6545.specs.declared.Reading.{Reading}
-use Rattle.crtc6545.specs.Chip.{readingOf}
 use Rattle.calling.specs.After.{done45, data45}
 use Rattle.calling.proofs.Told.{read45}
 use Rattle.calling.proofs.on45.Statement.{statement}
