@@ -50,12 +50,6 @@ pub fn choose8(test: bool, x: u8, y: u8) -> u8
     if test { x } else { y }
 }
 
-pub fn choose16(test: bool, a: u16, b: u16) -> u16
-    ensures { λ r. ⌜ r ≡ (if test then a else b) ⌝ }
-{
-    if test { a } else { b }
-}
-
 // Bit k of x; a byte has none above 7.
 pub fn bit(k: u8, x: u8) -> bool
     ensures { λ r. ⌜ r ≡ bitOf k x ⌝ }

@@ -1,3 +1,4 @@
+pub mod Dividers
 pub mod Formed
 pub mod Clocked
 pub mod Runs

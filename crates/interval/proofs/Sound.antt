@@ -5,12 +5,13 @@ use Prim.Native.Nat.{ℕ, suc, _+_, _-_, _*_, _<_, _≤_}
 use native.Mathlib.Nat.{le-refl, mul-le-mul-left, mul-suc}
 use native.Mathlib.Omega.{arith}
 use lib.Dec.{eqb, lit≤, lit<}
-use Rattle.clocks.specs.Clocks.{if_then_else_, lower}
+use Rattle.clocks.specs.Clocks.{lower}
 use Rattle.clocks.proofs.Tests.{picked}
 use Rattle.interval.specs.Timer.{wellTimed, dividerOf, loaded, moved, clocked}
 use Rattle.interval.specs.Closed.{countsOf, spent}
 use Rattle.interval.specs.Demands.{Reached, at-power-up, by-load, by-clock, by-flags}
 use Rattle.interval.specs.declared.Timer.{Timer}
+use Rattle.interval.proofs.Dividers.{by-choice}
 use Rattle.interval.proofs.Formed.{formed, well, product}
 use Rattle.interval.proofs.Clocked.{by-case}
 
@@ -41,24 +42,7 @@ clock-well t w =
     }))
 
 pub load-well : (choice x : ℕ) (e : Bool) → wellTimed (loaded choice x e) ≡ true
-load-well choice x e = go (eqb choice 0) (eqb choice 1) (eqb choice 2)
-  where
-    go :
-        (p q r : Bool)
-        → wellTimed
-        (record {
-          value = x;
-          divider = if p then 1 else if q then 8 else if r then 64 else 1024;
-          prescaler = 1;
-          expired = false;
-          flag = false;
-          enable = e;
-        })
-        ≡ true
-    go true q r = refl
-    go false true r = refl
-    go false false true = refl
-    go false false false = refl
+load-well choice x e = by-choice _ choice refl (λ i d. rw d) (λ i d. rw d) (λ i d. rw d) (λ i d. rw d)
 
 -- a load puts a timer at most 255 values above zero
 pub record Sound (t : Timer) : Type 0 where

@@ -1,9 +1,10 @@
 // The 6532's interval timer by value: a byte that counts down behind a divider, with a flag for its first passing of zero.
 ghost use mathlib.Core.Path.{_≡_};
+ghost use Prim.Native.Nat.{_^_, _<_};
 ghost use Rattle.clocks.specs.Clocks.{if_then_else_, after};
 ghost use Rattle.interval.specs.Timer.{wellTimed, powerUp, dividerOf, loaded, clocked, Due};
 use clocks::Forecast;
-use clocks::choose16;
+use clocks::choose8;
 
 mod closed;
 
@@ -17,17 +18,24 @@ pub struct Timer {
     pub enable: bool,
 }
 
+// How far 1 is shifted to be the divider. A choice above 3 counts as 3.
+fn amount(choice: u8) -> u8
+    ensures { λ r. ⌜ (r < 16) × (2 ^ r ≡ dividerOf choice) ⌝ }
+{
+    let place = choose8(choice < 4, choice, 3);
+    Timer::AMOUNTS[place as usize]
+}
+
 fn divider(choice: u8) -> u16
     ensures { λ r. ⌜ r ≡ dividerOf choice ⌝ }
 {
-    choose16(
-        choice == 0,
-        1,
-        choose16(choice == 1, 8, choose16(choice == 2, 64, 1024)),
-    )
+    1 << amount(choice)
 }
 
 impl Timer {
+    // The amounts of the four choices.
+    const AMOUNTS: [u8; 4] = [0, 3, 6, 10];
+
     pub fn power_up() -> Timer
         ensures { λ r. ⌜ r ≡ powerUp ⌝ }
     {
