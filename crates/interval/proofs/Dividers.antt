@@ -7,7 +7,7 @@ use borrow.Author.Tests.{le-ltb, ne-eqb}
 use Rattle.clocks.specs.Clocks.{if_then_else_}
 use Rattle.interval.specs.Timer.{dividerOf}
 
--- the place i of a choice k is one of four, any choice above 3 having the last: what each of them shows, with its divider, is shown
+-- choice k has place i of four, the last if it is above 3; what follows from each place, with its divider, follows from k
 pub by-choice :
     {A : Type 0} (i k : ℕ) → i ≡ (if ltb k 4 then k else 3)
     → (i ≡ 0 → dividerOf k ≡ 1 → A)

@@ -18,7 +18,7 @@ pub struct Timer {
     pub enable: bool,
 }
 
-// How far 1 is shifted to be the divider. A choice above 3 counts as 3.
+// The amount by which 1 is shifted. A choice above 3 counts as 3.
 fn amount(choice: u8) -> u8
     ensures { λ r. ⌜ (r < 16) × (2 ^ r ≡ dividerOf choice) ⌝ }
 {
@@ -33,7 +33,7 @@ fn divider(choice: u8) -> u16
 }
 
 impl Timer {
-    // The amounts of the four choices.
+    // How far 1 is shifted for each divider: 1, 8, 64, 1024.
     const AMOUNTS: [u8; 4] = [0, 3, 6, 10];
 
     pub fn power_up() -> Timer
