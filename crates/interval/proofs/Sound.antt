@@ -1,6 +1,6 @@
 -- What loads, clocks and changes of the flag keep of a timer: that it is well formed, and no higher than a load puts it.
 use mathlib.Core.Path.{_≡_, refl, sym, ap, _∙_}
-use mathlib.Core.Bool.{Bool, true, false, false≢true}
+use mathlib.Core.Bool.{Bool, true, false≢true}
 use Prim.Native.Nat.{ℕ, suc, _+_, _-_, _*_, _<_, _≤_}
 use native.Mathlib.Nat.{le-refl, mul-le-mul-left, mul-suc}
 use native.Mathlib.Omega.{arith}
