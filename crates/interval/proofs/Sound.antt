@@ -42,7 +42,7 @@ clock-well t w =
     }))
 
 pub load-well : (choice x : ℕ) (e : Bool) → wellTimed (loaded choice x e) ≡ true
-load-well choice x e = by-choice _ choice refl (λ i d. rw d) (λ i d. rw d) (λ i d. rw d) (λ i d. rw d)
+load-well choice x e = by-choice _ choice 3 refl (λ i d. rw d) (λ i d. rw d) (λ i d. rw d) (λ i d. rw d) (λ i d. rw d)
 
 -- a load puts a timer at most 255 values above zero
 pub record Sound (t : Timer) : Type 0 where
