@@ -16,12 +16,12 @@ use Rattle.via6522.specs.declared.Via.{Via}
 use Rattle.via6522.specs.declared.Answer as Answer22
 use Rattle.via6522.proofs.Keeps.{Ranged}
 use Rattle.via6522.proofs.Lawful as Lawful22
-use Rattle.via6522.proofs.Demands as Proved22
+use Rattle.via6522.proofs.Watched as Watched22
 use Rattle.riot6532.specs.Chip as Chip32
 use Rattle.riot6532.specs.declared.Riot.{Riot}
 use Rattle.riot6532.specs.declared.Answer as Answer32
 use Rattle.riot6532.proofs.Lawful as Lawful32
-use Rattle.riot6532.proofs.Demands as Proved32
+use Rattle.riot6532.proofs.Watched as Watched32
 use Rattle.calling.specs.Told.{replied, lineOf, forecast22, reply22, forecast32, reply32}
 use Rattle.calling.specs.Demands
 
@@ -56,7 +56,7 @@ pub ahead22-is :
 unfolding forecast22
 ahead22-is v f r h t =
     ahead-is Chip22.chip Lawful22.lawful Chip22.clocked Chip22.lined (λ (a : Answer22.Answer). lineOf (a .irq)) 65537 v f r
-    (λ w. Proved22.forecast-most v f r h w t) t
+    (λ w. Watched22.forecast-most v f r h w t) t
 
 pub ahead32-is :
     (v : Riot) (f : Forecast) (r : Answer32.Answer) → v .io .timer .value < 256 → Foretold Chip32.chip Chip32.clocked Chip32.lined v f r
@@ -64,7 +64,7 @@ pub ahead32-is :
 unfolding forecast32
 ahead32-is v f r h t =
     ahead-is Chip32.chip Lawful32.lawful Chip32.clocked Chip32.lined (λ (a : Answer32.Answer). lineOf (a .irq)) 262144 v f r
-    (λ w. Proved32.forecast-most v f r h w t) t
+    (λ w. Watched32.forecast-most v f r h w t) t
 
 pub forecast-told : Demands.Forecast-told
 unfolding forecast22 forecast32
@@ -72,9 +72,9 @@ forecast-told = (
   λ v f r reached t.
       let w = reached-well Chip22.chip Lawful22.lawful v reached in
       looked Chip22.chip Lawful22.lawful Chip22.clocked Chip22.lined (λ a. 0) 65537 v f r
-      (λ w. Proved22.forecast-most v f r (Proved22.reached-ranged v reached) w t) t w,
+      (λ w. Watched22.forecast-most v f r (Watched22.reached-ranged v reached) w t) t w,
   λ v f r reached t.
       let w = reached-well Chip32.chip Lawful32.lawful v reached in
       looked Chip32.chip Lawful32.lawful Chip32.clocked Chip32.lined (λ a. 0) 262144 v f r
-      (λ w. Proved32.forecast-most v f r (Proved32.reached-byte v reached) w t) t w,
+      (λ w. Watched32.forecast-most v f r (Watched32.reached-byte v reached) w t) t w,
 )

@@ -1,21 +1,21 @@
 -- The demands on a chip, proved once from the facts that each chip shows of itself.
 use mathlib.Core.Path.{_≡_, refl, sym, ap, ap₂, _∙_}
-use mathlib.Core.Bool.{Bool, true, false}
+use mathlib.Core.Bool.{Bool, true, false, true≢false}
 use mathlib.Core.Logic.{_↔_}
-use Prim.Native.Nat.{ℕ, suc, _+_, _-_, _≤_}
+use Prim.Native.Nat.{ℕ, suc, _+_, _≤_}
 use native.Mathlib.Omega.{arith}
-use native.Mathlib.Decide.{decLe, ℕ-discrete}
-use lib.Dec.{eqb, leb}
-use borrow.Author.Tests.{eq-eqb, ne-eqb, le-leb, lt-leb}
+use native.Mathlib.Decide.{ℕ-discrete}
+use lib.Dec.{eqb}
+use borrow.Author.Tests.{eq-eqb, ne-eqb}
 use Rattle.clocks.specs.Clocks.{if_then_else_, after}
 use Rattle.clocks.specs.Bits.{gone}
-use Rattle.clocks.specs.Forecasts.{comes}
+use Rattle.clocks.specs.Forecasts.{comes, shortened}
 use Rattle.clocks.specs.declared.Forecast.{Forecast}
-use Rattle.clocks.specs.declared.Forecast.the-variants.{Never, In}
+use Rattle.clocks.specs.declared.Forecast.the-variants.{In}
 use Rattle.clocks.proofs.Tests.{on-true, on-false}
 use Rattle.clocks.proofs.Bits.{gone-none}
 use Rattle.clocks.proofs.Clocks.{after-add, after-keeps, run-calls}
-use Rattle.clocks.proofs.Forecasts.{comes-one, told-least, told-never}
+use Rattle.clocks.proofs.Forecasts.{comes-one, told-least, told-never, shortened-comes, AtMost, most-in}
 use Rattle.chips.specs.Chips
 use Rattle.chips.specs.Chips.{Chip, first, answer, next, Reached, at-power-up, by, Answers, Clocked, Runs, Lined, line, Foretold, Lines, clearedBy}
 
@@ -216,10 +216,10 @@ module _ (C : Chip) (S : Lawful C) (T : Clocked C) (K : Ticks C T) where
       go true w = run-well-shows 0 v (omega arith) w ∙ sym (on-true (C .well v) _ _ w)
       go false w = refuses-ill C S (T .run 0) v w ∙ sym (on-false (C .well v) _ _ w)
 
-  runs-add : Chips.Runs-add C T
-  runs-add a b v h = go (C .well v) refl
+  pub runs-add : Chips.Runs-add C T
+  runs-add v a b r s t h p q e = q ∙ ap (answer C (T .run b)) (ap (C .left) p) ∙ go (C .well v) refl ∙ sym e
     where
-      go : (t : Bool) → C .well v ≡ t → answer C (T .run b) (next C (T .run a) v) ≡ answer C (T .run (a + b)) v
+      go : (u : Bool) → C .well v ≡ u → answer C (T .run b) (next C (T .run a) v) ≡ answer C (T .run (a + b)) v
       go true w =
           ap (answer C (T .run b)) (run-well-leaves a v (omega arith) w)
           ∙ run-well-shows b (after a (T .rule) v) (omega arith) (runs-well a v w)
@@ -233,11 +233,19 @@ module _ (C : Chip) (S : Lawful C) (T : Clocked C) (K : Ticks C T) where
   pub runs : Runs C T
   runs = record { clock-turns = clock-turns; run-single = run-single; run-shows = run-shows; run-of-none = run-of-none; runs-add = runs-add }
 
--- ---- what a chip with an interrupt line shows besides: where answers show the line, what it means, and how large a forecast can be
-pub record Watched (C : Chip) (T : Clocked C) (L : Lined C) : Type 0 where
+-- ---- what a chip with an interrupt line shows besides: where answers show the line and what it means; that a forecast leaves the record;
+-- and its forecast worked out, which is at most the largest where `Kept` holds, as it does in every reached record, and the largest in one
+pub record Watched (C : Chip) (T : Clocked C) (L : Lined C) : Type 1 where
   pub shows : (d : ℕ) (v : C .State) → L .asserted (C .accepted d v) ≡ L .irq v
   pub exact : (v : C .State) → C .well v ≡ true → (L .irq v ≡ true) ↔ L .Raised v
-  pub bound : Chips.Forecast-bound C T L
+  pub leaves : (v : C .State) → C .leaves (L .forecast) v ≡ v
+  pub ahead : C .State → Forecast
+  pub tells : (v : C .State) → C .well v ≡ true → (k : ℕ) → line C T L k v ≡ comes (ahead v) k
+  pub Kept : C .State → Type 0
+  pub kept-first : Kept (C .powerUp)
+  pub kept-next : (c : C .Call) (v : C .State) → C .Typed c → C .asks c v ≡ 0 → C .well v ≡ true → Kept v → Kept (C .leaves c v)
+  pub most : (v : C .State) → C .well v ≡ true → Kept v → AtMost (L .largest) (ahead v)
+  pub farthest : (v : C .State) × Reached C v × (ahead v ≡ In (L .largest))
 
 module _ (C : Chip) (S : Lawful C) (T : Clocked C) (K : Ticks C T) (L : Lined C) (W : Watched C T L) where
   line-exact : Chips.Line-exact C T L
@@ -259,30 +267,13 @@ module _ (C : Chip) (S : Lawful C) (T : Clocked C) (K : Ticks C T) (L : Lined C)
       go true w = comes-one f g (λ k. sym (a .told w k) ∙ b .told w k)
       go false w = a .refused w ∙ sym (b .refused w)
 
-  -- two forecasts with m clocks between them speak of the same moments
-  later :
-      (v : C .State) (f g : Forecast) (r s : C .Answer) (m : ℕ) → C .well v ≡ true → m ≤ T .longest
-      → Foretold C T L v f r → Foretold C T L (next C (T .run m) v) g s → (j : ℕ) → comes g j ≡ comes f (m + j)
-  later v f g r s m w h a b j =
-      let e = run-well-leaves C S T K m v h w in
-      let w′ : C .well (next C (T .run m) v) ≡ true = rw e (runs-well C S T K m v w) in
-      sym (b .told w′ j)
-      ∙ ap (λ (u : C .State). L .irq (after j (T .rule) u)) e
-      ∙ ap (L .irq) (sym (after-add m j (T .rule) v))
-      ∙ a .told w (m + j)
-
-  forecast-keeps : Chips.Forecast-keeps C T L
-  forecast-keeps v f g r s k m w l h a b e =
-      comes-one g (In (k - m))
-      (λ j. later v f g r s m w h a b j ∙ ap (λ (x : Forecast). comes x (m + j)) e ∙ moved j (decLe k (m + j)))
-    where
-      moved : (j : ℕ) → Dec (k ≤ m + j) → leb k (m + j) ≡ leb (k - m) j
-      moved j (yes p) = le-leb k (m + j) p ∙ sym (le-leb (k - m) j (omega arith))
-      moved j (no p) = lt-leb k (m + j) (omega arith) ∙ sym (lt-leb (k - m) j (omega arith))
-
-  never-stays : Chips.Never-stays C T L
-  never-stays v f g r s m w h a b e =
-      comes-one g Never (λ j. later v f g r s m w h a b j ∙ ap (λ (x : Forecast). comes x (m + j)) e)
+  forecast-leaves : Chips.Forecast-leaves C T L
+  forecast-leaves v f r t =
+      ap (C .left) (t .answered)
+      ∙ by-refusal C S (L .forecast) v (λ r. C .left r ≡ v)
+      (λ w. S .left-refused 1 v)
+      (λ w n. S .left-refused (C .asks (L .forecast) v) v)
+      (λ w n. S .left-accepted (C .gives (L .forecast) v) (C .leaves (L .forecast) v) ∙ W .leaves v)
 
   pub lines : Lines C T L
   lines =
@@ -291,11 +282,71 @@ module _ (C : Chip) (S : Lawful C) (T : Clocked C) (K : Ticks C T) (L : Lined C)
         line-exact = line-exact;
         forecast-least = λ v f r d reached t e. told-least (λ k. line C T L k v) f (told-reached v f r reached t) d e;
         forecast-never = λ v f r reached t. told-never (λ k. line C T L k v) f (told-reached v f r reached t);
+        forecast-leaves = forecast-leaves;
         forecast-one = forecast-one;
-        forecast-bound = W .bound;
-        forecast-keeps = forecast-keeps;
-        never-stays = never-stays;
       }
+
+  -- a run between two forecasts: of a well-formed record they speak of the same moments, and an ill-formed one comes back from it
+  pub forecast-shortened : Chips.Forecast-shortened C T L
+  forecast-shortened v f g m t = go (C .well v) refl
+    where
+      ran : C .left (t .ran) ≡ next C (T .run m) v
+      ran = ap (C .left) (t .run) ∙ ap (next C (T .run m)) (forecast-leaves v f (t .before) (t .foretold))
+
+      go : (u : Bool) → C .well v ≡ u → g ≡ shortened m f
+      go true w =
+          let e = ran ∙ run-well-leaves C S T K m v (t .at-most) w in
+          let w′ : C .well (C .left (t .ran)) ≡ true = rw e (runs-well C S T K m v w) in
+          comes-one g (shortened m f)
+          (λ j. sym (t .again .told w′ j)
+          ∙ ap (λ (u : C .State). L .irq (after j (T .rule) u)) e
+          ∙ ap (L .irq) (sym (after-add m j (T .rule) v))
+          ∙ t .foretold .told w (m + j)
+          ∙ sym (shortened-comes m f j))
+      go false w =
+          let e = ran ∙ ill-leaves C S (T .run m) v w in
+          t .again .refused (ap (C .well) e ∙ w) ∙ ap In (omega arith) ∙ sym (ap (shortened m) (t .foretold .refused w))
+
+  pub forecast-keeps : Chips.Forecast-keeps C T L
+  forecast-keeps v f g k m t e h = forecast-shortened v f g m t ∙ ap (shortened m) e
+
+  pub never-stays : Chips.Never-stays C T L
+  never-stays v f g m t e = forecast-shortened v f g m t ∙ ap (shortened m) e
+
+  -- what is worked out is what a forecast promises, and all that it can be
+  pub foretold-is : (v : C .State) (f : Forecast) (r : C .Answer) → C .well v ≡ true → Foretold C T L v f r → f ≡ W .ahead v
+  foretold-is v f r w t = comes-one f (W .ahead v) (λ k. sym (t .told w k) ∙ W .tells v w k)
+
+  pub reached-kept : (v : C .State) → Reached C v → W .Kept v
+  reached-kept = reached-keeps C S (W .Kept) (W .kept-next) (W .kept-first)
+
+  pub forecast-bound : Chips.Forecast-bound C T L
+  forecast-bound v f r d reached t e =
+      let w = reached-well C S v reached in
+      most-in (L .largest) d (W .ahead v) (W .most v w (reached-kept v reached)) (sym (foretold-is v f r w t) ∙ e)
+
+  pub forecast-attained : Chips.Forecast-attained C T L
+  forecast-attained =
+      let v = W .farthest .0 in
+      let w = reached-well C S v (W .farthest .1) in
+      let far = W .farthest .2 in (
+        v,
+        answer C (L .forecast) v,
+        W .farthest .1,
+        record {
+          answered = refl;
+          told = λ z k. W .tells v w k ∙ ap (λ (f : Forecast). comes f k) far;
+          refused = λ z. absurd (true≢false (sym w ∙ z));
+        },
+      )
+
+  -- of two numbers that are attained each bounds the other
+  pub largest-one : Chips.Largest-one C T L
+  largest-one n bound (v, r, reached, t) =
+      let above = forecast-bound v (In n) r n reached t refl in
+      let (u, s, far, told) = forecast-attained in
+      let below = bound u (In (L .largest)) s (L .largest) far told refl in
+      omega arith
 
 -- ---- what a call cleared
 module _ (C : Chip) (S : Lawful C) (flags : C .State → ℕ) where

@@ -1,5 +1,6 @@
 -- One theory for all chips of the bench: what makes a chip, its answer to a call, the records that can come up, and the demands on them.
--- Each chip's specs/Chip.antt fills in Chip, Clocked and Lined; its specs/Demands.antt asks for Answers, Runs and Lines of them.
+-- Each chip's specs/Chip.antt fills in Chip, Clocked and Lined; its specs/Demands.antt asks for Answers, Runs and Lines of them, and for
+-- what request 14 has of forecasts.
 use mathlib.Core.Path.{_≡_}
 use mathlib.Core.Bool.{Bool, true, false}
 use mathlib.Core.Logic.{_↔_}
@@ -7,7 +8,7 @@ use Prim.Native.Nat.{ℕ, suc, _+_, _-_, _<_, _≤_}
 use lib.Dec.{eqb}
 use Rattle.clocks.specs.Clocks.{if_then_else_, after}
 use Rattle.clocks.specs.Bits.{gone}
-use Rattle.clocks.specs.Forecasts.{comes}
+use Rattle.clocks.specs.Forecasts.{comes, shortened}
 use Rattle.clocks.specs.declared.Forecast.{Forecast}
 use Rattle.clocks.specs.declared.Forecast.the-variants.{Never, In}
 
@@ -107,6 +108,10 @@ pub record Clocked (C : Chip) : Type 0 where
   pub longest : ℕ
 
 module _ (C : Chip) (T : Clocked C) where
+  -- what an entry promises that gives the answer r to a run of n clocks
+  abbrev pub Ran : C .State → ℕ → C .Answer → Type 0
+  Ran v n r = r ≡ answer C (T .run n) v
+
   -- a single clock is one turn of the rule
   abbrev pub Clock-turns : Type 0
   Clock-turns = (v : C .State) → C .well v ≡ true → answer C (T .run 1) v ≡ C .accepted 0 (T .rule v)
@@ -123,11 +128,11 @@ module _ (C : Chip) (T : Clocked C) where
   abbrev pub Run-of-none : Type 0
   Run-of-none = (v : C .State) → answer C (T .run 0) v ≡ (if C .well v then C .accepted 0 v else C .refused 1 v)
 
-  -- a clocks and then b show and leave what a + b do
+  -- a clocks and then b leave what a + b leave, and the last answer shows the same lines
   abbrev pub Runs-add : Type 0
   Runs-add =
-      (a b : ℕ) (v : C .State) → a + b ≤ T .longest
-      → answer C (T .run b) (next C (T .run a) v) ≡ answer C (T .run (a + b)) v
+      (v : C .State) (a b : ℕ) (r s t : C .Answer) → a + b ≤ T .longest
+      → Ran v a r → Ran (C .left r) b s → Ran v (a + b) t → s ≡ t
 
   pub record Runs : Type 0 where
     pub clock-turns : Clock-turns
@@ -178,35 +183,64 @@ module _ (C : Chip) (T : Clocked C) (L : Lined C) where
   Forecast-never =
       (v : C .State) (f : Forecast) (r : C .Answer) → Reached C v → Foretold v f r → (f ≡ Never) ↔ ((j : ℕ) → line j v ≡ false)
 
+  -- a forecast hands back the record that it was given
+  abbrev pub Forecast-leaves : Type 0
+  Forecast-leaves = (v : C .State) (f : Forecast) (r : C .Answer) → Foretold v f r → C .left r ≡ v
+
   -- any two forecasts that the promise allows coincide, and so do their answers
   abbrev pub Forecast-one : Type 0
   Forecast-one = (v : C .State) (f g : Forecast) (r s : C .Answer) → Foretold v f r → Foretold v g s → (f ≡ g) × (r ≡ s)
-
-  -- a forecast of a reached record is never or at most the largest
-  abbrev pub Forecast-bound : Type 0
-  Forecast-bound =
-      (v : C .State) (f : Forecast) (r : C .Answer) (d : ℕ) → Reached C v → Foretold v f r → f ≡ In d → d ≤ L .largest
-
-  -- running part of the way shortens a forecast by as much; no run makes a forecast of what never happens
-  abbrev pub Forecast-keeps : Type 0
-  Forecast-keeps =
-      (v : C .State) (f g : Forecast) (r s : C .Answer) (k m : ℕ) → C .well v ≡ true → m ≤ k → m ≤ T .longest
-      → Foretold v f r → Foretold (next C (T .run m) v) g s → f ≡ In k → g ≡ In (k - m)
-
-  abbrev pub Never-stays : Type 0
-  Never-stays =
-      (v : C .State) (f g : Forecast) (r s : C .Answer) (m : ℕ) → C .well v ≡ true → m ≤ T .longest
-      → Foretold v f r → Foretold (next C (T .run m) v) g s → f ≡ Never → g ≡ Never
 
   pub record Lines : Type 0 where
     pub line-of-record : Line-of-record
     pub line-exact : Line-exact
     pub forecast-least : Forecast-least
     pub forecast-never : Forecast-never
+    pub forecast-leaves : Forecast-leaves
     pub forecast-one : Forecast-one
-    pub forecast-bound : Forecast-bound
-    pub forecast-keeps : Forecast-keeps
-    pub never-stays : Never-stays
+
+-- ---- request 14: a forecast keeps its word. The record may be any, well formed or not, except where it has to be reached
+
+module _ (C : Chip) (T : Clocked C) (L : Lined C) where
+  -- three calls with nothing between them, each on the record that the one before gave back, and what their entries promise: a forecast f,
+  -- a run of m clocks, a forecast g
+  pub record Retold (v : C .State) (f : Forecast) (m : ℕ) (g : Forecast) : Type 0 where
+    pub before : C .Answer
+    pub ran : C .Answer
+    pub later : C .Answer
+    pub foretold : Foretold C T L v f before
+    pub at-most : m ≤ T .longest
+    pub run : Ran C T (C .left before) m ran
+    pub again : Foretold C T L (C .left ran) g later
+
+  -- a run of m clocks takes m from a forecast of at least as many
+  abbrev pub Forecast-keeps : Type 0
+  Forecast-keeps = (v : C .State) (f g : Forecast) (k m : ℕ) → Retold v f m g → f ≡ In k → m ≤ k → g ≡ In (k - m)
+
+  -- what is never asserted is never asserted after any run either
+  abbrev pub Never-stays : Type 0
+  Never-stays = (v : C .State) (f g : Forecast) (m : ℕ) → Retold v f m g → f ≡ Never → g ≡ Never
+
+  -- both by one equation, and runs beyond the forecast with them, after which it is 0
+  abbrev pub Forecast-shortened : Type 0
+  Forecast-shortened = (v : C .State) (f g : Forecast) (m : ℕ) → Retold v f m g → g ≡ shortened m f
+
+  -- no forecast of a reached record is above n, unless it is never; one of them is n
+  abbrev pub Bounded : ℕ → Type 0
+  Bounded n = (v : C .State) (f : Forecast) (r : C .Answer) (d : ℕ) → Reached C v → Foretold C T L v f r → f ≡ In d → d ≤ n
+
+  abbrev pub Attained : ℕ → Type 0
+  Attained n = (v : C .State) × (r : C .Answer) × Reached C v × Foretold C T L v (In n) r
+
+  -- both are so of the number that is called the largest, and of no other
+  abbrev pub Forecast-bound : Type 0
+  Forecast-bound = Bounded (L .largest)
+
+  abbrev pub Forecast-attained : Type 0
+  Forecast-attained = Attained (L .largest)
+
+  abbrev pub Largest-one : Type 0
+  Largest-one = (n : ℕ) → Bounded n → Attained n → n ≡ L .largest
 
 -- ---- request 03: what a call cleared
 

@@ -2,14 +2,14 @@
 use mathlib.Core.Path.{_≡_, refl, sym, ap, _∙_}
 use mathlib.Core.Bool.{Bool, true, false, _||_, _&&_, or-true, or-false, and-true, and-false, true≢false, false≢true}
 use mathlib.Core.Logic.{_↔_}
-use Prim.Native.Nat.{ℕ, zero, suc, _+_, _<_, _≤_}
+use Prim.Native.Nat.{ℕ, zero, suc, _+_, _-_, _<_, _≤_}
 use native.Mathlib.Nat.{le-refl}
 use native.Mathlib.Decide.{decLt, decLe}
 use native.Mathlib.Omega.{arith}
 use lib.Dec.{leb, leb·zero}
 use borrow.Author.Tests.{le-leb, lt-leb, leb-true}
 use Rattle.clocks.specs.Clocks.{if_then_else_}
-use Rattle.clocks.specs.Forecasts.{comes, soonerOf, firstFrom}
+use Rattle.clocks.specs.Forecasts.{comes, shortened, soonerOf, firstFrom}
 use Rattle.clocks.specs.declared.Forecast.{Forecast}
 use Rattle.clocks.specs.declared.Forecast.the-variants.{Never, In}
 use Rattle.clocks.proofs.Tests.{picked}
@@ -41,6 +41,15 @@ module _ (line : ℕ → Bool) (f : Forecast) (told : (k : ℕ) → line k ≡ c
   pub told-never : (f ≡ Never) ↔ ((j : ℕ) → line j ≡ false)
   told-never =
       (λ e j. told j ∙ ap (λ (g : Forecast). comes g j) e, λ h. comes-one f Never (λ k. sym (told k) ∙ h k))
+
+-- m clocks later, a forecast has come by the same moment
+pub shortened-comes : (m : ℕ) (f : Forecast) (j : ℕ) → comes (shortened m f) j ≡ comes f (m + j)
+shortened-comes m Never j = refl
+shortened-comes m (In d) j = go (decLe d (m + j))
+  where
+    go : Dec (d ≤ m + j) → leb (d - m) j ≡ leb d (m + j)
+    go (yes h) = le-leb (d - m) j (omega arith) ∙ sym (le-leb d (m + j) h)
+    go (no h) = lt-leb (d - m) j (omega arith) ∙ sym (lt-leb d (m + j) (omega arith))
 
 -- the sooner forecast has come as soon as one of the two has
 pub sooner-comes : (f g : Forecast) (k : ℕ) → comes (soonerOf f g) k ≡ (comes f k || comes g k)

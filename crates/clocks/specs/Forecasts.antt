@@ -1,6 +1,6 @@
 -- A forecast: after how many clocks a flag is set or a line asserted, or that it never is.
 use mathlib.Core.Bool.{Bool, false}
-use Prim.Native.Nat.{ℕ, zero, suc}
+use Prim.Native.Nat.{ℕ, zero, suc, _-_}
 use lib.Dec.{leb}
 use Rattle.clocks.specs.Clocks.{if_then_else_}
 use Rattle.clocks.specs.declared.Forecast.{Forecast}
@@ -15,6 +15,11 @@ numberOf (In d) = d
 abbrev pub comes : Forecast → ℕ → Bool
 comes Never k = false
 comes (In d) k = leb d k
+
+-- what a forecast says m clocks later: m fewer, 0 once it has come, and never as before
+abbrev pub shortened : ℕ → Forecast → Forecast
+shortened m Never = Never
+shortened m (In d) = In (d - m)
 
 -- the sooner of two forecasts
 abbrev pub soonerOf : Forecast → Forecast → Forecast

@@ -1,8 +1,9 @@
 -- The statements of specs/Demands.antt, proved.
 use mathlib.Core.Path.{_≡_, refl, sym, _∙_}
 use mathlib.Core.Bool.{Bool, true, false, true≢false}
-use Prim.Native.Nat.{ℕ, _<_, zero-le}
+use Prim.Native.Nat.{ℕ, _<_, _≤_, zero-le}
 use native.Mathlib.Omega.{arith}
+use lib.Dec.{lit≤}
 use Rattle.clocks.specs.declared.Forecast.{Forecast}
 use Rattle.clocks.proofs.Tests.{picked}
 use Rattle.clocks.proofs.Forecasts.{comes-one, AtMost, most-in}
@@ -37,16 +38,16 @@ most-counts n t f w d h =
     rw (due-one t f (dueOf t) d (due-is t w))
     (picked (AtMost n) (t .flag) zero-le (picked (AtMost n) (t .expired) tt (omega arith)))
 
-pub most-reached : (t : Timer) (f : Forecast) → Reached t → Due t f → AtMost 261121 f
-most-reached t f r d =
+pub most-reached : (n : ℕ) (t : Timer) (f : Forecast) → 261121 ≤ n → Reached t → Due t f → AtMost n f
+most-reached n t f h r d =
     let s = Sound.reached-sound t r in
-    most-counts 261121 t f (s .well) d (Sound.counts-bound t s)
+    most-counts n t f (s .well) d (omega (arith, Sound.counts-bound t s))
 
 pub most-well : (t : Timer) (f : Forecast) → t .value < 256 → wellTimed t ≡ true → Due t f → AtMost 262144 f
 most-well t f b w d = most-counts 262144 t f w d (Sound.counts-most t b w)
 
 pub due-bound : Demands.Due-bound
-due-bound t f d r u e = most-in 261121 d f (most-reached t f r u) e
+due-bound t f d r u e = most-in 261121 d f (most-reached 261121 t f (lit≤ tt) r u) e
 
 pub due-most : Demands.Due-most
 due-most t f d b w u e = most-in 262144 d f (most-well t f b w u) e

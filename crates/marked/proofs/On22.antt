@@ -9,7 +9,6 @@ use borrow.Author.Tests.{eqb-true, not-true}
 use Rattle.clocks.specs.Clocks.{after}
 use Rattle.clocks.specs.Bits.{bit}
 use Rattle.clocks.specs.Forecasts.{comes}
-use Rattle.clocks.specs.declared.Forecast.{Forecast}
 use Rattle.clocks.specs.declared.Forecast.the-variants.{Never, In}
 use Rattle.clocks.proofs.Tests.{both}
 use Rattle.clocks.proofs.Forecasts.{comes-one}
@@ -19,23 +18,13 @@ use Rattle.timers.proofs.Seconds as Seconds
 use Rattle.via6522.specs.Record.{wellFormed}
 use Rattle.via6522.specs.Access.{readOf}
 use Rattle.via6522.specs.Clock.{timersOf, withTimers, clockOf}
-use Rattle.via6522.specs.Closed.{soonest}
 use Rattle.via6522.specs.declared.Via.{Via}
 use Rattle.via6522.proofs.Lens as Lens
-use Rattle.via6522.proofs.Lines.{line-after}
-use Rattle.marked.specs.Cases.{flag1, flag2, line22, Flags1, Reloads1, Wraps2, Outcome22, T1-flags-at, T1-reloads_forecast_, T2-wraps-unflagged-at, Shows22}
+use Rattle.via6522.proofs.Watched.{due1, due2, ahead, tells}
+use Rattle.marked.specs.Cases.{flag1, flag2, Flags1, Reloads1, Wraps2, Outcome22, T1-flags-at, T1-reloads_forecast_, T2-wraps-unflagged-at, Shows22}
 use Rattle.marked.proofs.Tests.{same, same-comes}
 
--- when the flags are set and the line is asserted
-abbrev due1 : Via → Forecast
-due1 v = Firsts.dueOf (timersOf v .t1)
-
-abbrev due2 : Via → Forecast
-due2 v = Seconds.dueOf (timersOf v .t2)
-
-abbrev due : Via → Forecast
-due v = soonest v (due1 v) (due2 v)
-
+-- when the flags are set
 flag1-due : (k : ℕ) (v : Via) → flag1 k v ≡ comes (due1 v) k
 unfolding withTimers
 flag1-due k v =
@@ -45,10 +34,6 @@ flag2-due : (k : ℕ) (v : Via) → flag2 k v ≡ comes (due2 v) k
 unfolding withTimers
 flag2-due k v =
     ap (λ (u : Via). bit 5 (u .ifr)) (Lens.each-after k v) ∙ Lens.flag2 _ _ (v .ifr) ∙ Seconds.flag-due (timersOf v .t2) k
-
-line-due : (k : ℕ) (v : Via) → line22 k v ≡ comes (due v) k
-line-due k v =
-    line-after v (due1 v) (due2 v) (Firsts.flag-due (timersOf v .t1)) (Seconds.flag-due (timersOf v .t2)) k
 
 counter2 : (k : ℕ) (v : Via) → after k clockOf v .t2 .counter ≡ after k Second.clocked (timersOf v .t2) .counter
 unfolding withTimers
@@ -78,7 +63,7 @@ reloads1 latch n v =
     && v .t1 .mark
     && eqb (v .t1 .latch) latch
     && wellFormed v
-    && same (due v) (In n)
+    && same (ahead v) (In n)
 
 reloads1-holds : (latch n : ℕ) (v : Via) → reloads1 latch n v ≡ true → Reloads1 latch n v
 reloads1-holds latch n v h =
@@ -94,8 +79,8 @@ reloads1-holds latch n v h =
       alone = eqb-true (v .ier) 64 (b .1);
       mark = c .1;
       latched = eqb-true (v .t1 .latch) latch (d .1);
-      line = λ k. line-due k v ∙ same-comes (due v) (In n) (f .1) k;
-      told = λ g r t. comes-one g (In n) (λ k. sym (t .told (e .1) k) ∙ line-due k v ∙ same-comes (due v) (In n) (f .1) k);
+      line = λ k. tells v k ∙ same-comes (ahead v) (In n) (f .1) k;
+      told = λ g r t. comes-one g (In n) (λ k. sym (t .told (e .1) k) ∙ tells v k ∙ same-comes (ahead v) (In n) (f .1) k);
     }
 
 -- ---- T2 disarmed

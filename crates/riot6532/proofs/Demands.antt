@@ -1,29 +1,26 @@
 -- The statements of specs/Demands.antt, proved.
 use mathlib.Core.Path.{_≡_, refl, ap, ap₂, _∙_}
-use mathlib.Core.Bool.{Bool, true, not, _&&_}
-use Prim.Native.Nat.{ℕ, _<_}
+use mathlib.Core.Bool.{Bool, not, _&&_}
+use mathlib.Core.List.{[]}
+use Prim.Native.Nat.{ℕ}
 use lib.Dec.{eqb}
 use Rattle.clocks.specs.Clocks.{if_then_else_}
 use Rattle.clocks.specs.Bits.{bit, withBit}
-use Rattle.clocks.specs.declared.Forecast.{Forecast}
 use Rattle.clocks.proofs.Bits.{bit-none, bit-clear, bit-with}
-use Rattle.clocks.proofs.Forecasts.{AtMost}
 use Rattle.calls.specs.declared.Call32.the-variants.{Read}
-use Rattle.chips.specs.Chips.{Reached, Foretold, next}
+use Rattle.chips.specs.Chips.{next}
 use Rattle.chips.proofs.Chips as Chips
-use Rattle.interval.proofs.Sound.{reached-sound}
-use Rattle.interval.proofs.Demands.{most-well}
-use Rattle.riot6532.specs.Record.{wellFormed}
+use Rattle.riot6532.specs.Record.{beside}
 use Rattle.riot6532.specs.Flags.{flagAt}
 use Rattle.riot6532.specs.Access.{flagsOf}
-use Rattle.riot6532.specs.Chip.{chip, clocked, lined, flags, readingOf}
+use Rattle.riot6532.specs.Chip.{chip, clocked, lined, whole, flags, readingOf}
 use Rattle.riot6532.specs.Demands
 use Rattle.riot6532.specs.declared.Io.{Io}
-use Rattle.riot6532.specs.declared.Riot.{Riot}
 use Rattle.riot6532.specs.declared.Answer.{Answer}
 use Rattle.riot6532.specs.declared.IoAnswer.{IoAnswer}
 use Rattle.riot6532.specs.declared.Reading.{Reading}
-use Rattle.riot6532.proofs.Lawful.{lawful, ticks, watched, reached-timer, most}
+use Rattle.riot6532.proofs.Lawful.{lawful, ticks}
+use Rattle.riot6532.proofs.Watched.{watched}
 
 pub answers : Demands.Answers
 answers = Chips.answers chip lawful
@@ -34,14 +31,27 @@ runs = Chips.runs chip lawful clocked ticks
 pub lines : Demands.Lines
 lines = Chips.lines chip lawful clocked ticks lined watched
 
--- no record in its types' ranges has the line asserted later than after 262,144 clocks; a reached one is in its ranges
-pub forecast-most :
-    (v : Riot) (f : Forecast) (r : Answer) → v .io .timer .value < 256 → wellFormed v ≡ true → Foretold chip clocked lined v f r
-    → AtMost 262144 f
-forecast-most v f r b w t = most 262144 v f r w t (λ g d. most-well (v .io .timer) g b w d)
+-- what request 14 asks of forecasts
+pub forecast-keeps : Demands.Forecast-keeps
+forecast-keeps = Chips.forecast-keeps chip lawful clocked ticks lined watched
 
-pub reached-byte : (v : Riot) → Reached chip v → v .io .timer .value < 256
-reached-byte v r = reached-sound (v .io .timer) (reached-timer v r) .byte
+pub never-stays : Demands.Never-stays
+never-stays = Chips.never-stays chip lawful clocked ticks lined watched
+
+pub forecast-shortened : Demands.Forecast-shortened
+forecast-shortened = Chips.forecast-shortened chip lawful clocked ticks lined watched
+
+pub runs-add : Demands.Runs-add
+runs-add = Chips.runs-add chip lawful clocked ticks
+
+pub forecast-bound : Demands.Forecast-bound
+forecast-bound = Chips.forecast-bound chip lawful clocked ticks lined watched
+
+pub forecast-attained : Demands.Forecast-attained
+forecast-attained = Chips.forecast-attained chip lawful clocked ticks lined watched
+
+pub largest-one : Demands.Largest-one
+largest-one = Chips.largest-one chip lawful clocked ticks lined watched
 
 pub power-up-reset : Demands.Power-up-reset
 power-up-reset = refl
@@ -53,6 +63,19 @@ apart a = record { refusal = a .refusal; «data» = a .«data»; irq = a .irq; p
 pub whole-one : Demands.Whole-one
 unfolding apart
 whole-one m n r s e = (ap (λ (a : Answer). a .riot .ram) e, ap apart e)
+
+-- what holds with any RAM beside it holds with an empty one
+pub forecast-shortened-io : Demands.Forecast-shortened-io
+forecast-shortened-io io f g n before ran later h p q t =
+    forecast-shortened (beside [] io) f g n
+    (record { before = whole [] before; ran = whole [] ran; later = whole [] later; foretold = p []; at-most = h; run = q []; again = t [] })
+
+pub runs-add-io : Demands.Runs-add-io
+runs-add-io io a b r s t h p q e =
+    whole-one [] [] s t (runs-add (beside [] io) a b (whole [] r) (whole [] s) (whole [] t) h (p []) (q []) (e [])) .1
+
+pub forecast-bound-io : Demands.Forecast-bound-io
+forecast-bound-io m io f r d reached t e = forecast-bound (beside m io) f (whole m r) d reached (t m) e
 
 pub whole-reading-one : Demands.Whole-reading-one
 unfolding apart

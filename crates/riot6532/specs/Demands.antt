@@ -2,14 +2,18 @@
 use mathlib.Core.Path.{_≡_}
 use mathlib.Core.Bool.{not, _&&_}
 use mathlib.Core.List.{List}
-use Prim.Native.Nat.{ℕ}
+use Prim.Native.Nat.{ℕ, _+_, _≤_}
 use Rattle.clocks.specs.Bits.{bit}
+use Rattle.clocks.specs.Forecasts.{shortened}
+use Rattle.clocks.specs.declared.Forecast.{Forecast}
+use Rattle.clocks.specs.declared.Forecast.the-variants.{In}
 use Rattle.calls.specs.declared.Call32.the-variants.{Read}
 use Rattle.chips.specs.Chips
 use Rattle.chips.specs.Chips.{answer}
-use Rattle.riot6532.specs.Record.{powerUp, resetOf}
+use Rattle.riot6532.specs.Record.{beside, powerUp, resetOf}
 use Rattle.riot6532.specs.Flags.{flagAt}
 use Rattle.riot6532.specs.Chip.{chip, clocked, lined, whole, readingOf, wholeReading}
+use Rattle.riot6532.specs.declared.Io.{Io}
 use Rattle.riot6532.specs.declared.Riot.{Riot}
 use Rattle.riot6532.specs.declared.IoAnswer.{IoAnswer}
 use Rattle.riot6532.specs.declared.IoReading.{IoReading}
@@ -25,6 +29,53 @@ Runs = Chips.Runs chip clocked
 -- the interrupt line and its forecast
 abbrev pub Lines : Type 0
 Lines = Chips.Lines chip clocked lined
+
+-- request 14, of what `run` and `forecast` give back, with the pins still and no access: a run of m clocks takes m from a forecast of at
+-- least as many; never stays never; and both at once, with runs beyond the forecast
+abbrev pub Forecast-keeps : Type 0
+Forecast-keeps = Chips.Forecast-keeps chip clocked lined
+
+abbrev pub Never-stays : Type 0
+Never-stays = Chips.Never-stays chip clocked lined
+
+abbrev pub Forecast-shortened : Type 0
+Forecast-shortened = Chips.Forecast-shortened chip clocked lined
+
+-- a run of a clocks and then one of b leave and show what one of a + b does, up to 4,294,967,295
+abbrev pub Runs-add : Type 0
+Runs-add = Chips.Runs-add chip clocked
+
+-- a forecast after any calls from power-up is never or at most 261,121; some calls make it 261,121; no other number has both
+abbrev pub Forecast-bound : Type 0
+Forecast-bound = Chips.Forecast-bound chip clocked lined
+
+abbrev pub Forecast-attained : Type 0
+Forecast-attained = Chips.Forecast-attained chip clocked lined
+
+abbrev pub Largest-one : Type 0
+Largest-one = Chips.Largest-one chip clocked lined
+
+-- the same of `Io`, whose entries promise the chip's answers with any RAM beside it
+abbrev pub Ran-io : Io → ℕ → IoAnswer → Type 0
+Ran-io io n r = (m : List ℕ) → Chips.Ran chip clocked (beside m io) n (whole m r)
+
+abbrev pub Foretold-io : Io → Forecast → IoAnswer → Type 0
+Foretold-io io f r = (m : List ℕ) → Chips.Foretold chip clocked lined (beside m io) f (whole m r)
+
+abbrev pub Forecast-shortened-io : Type 0
+Forecast-shortened-io =
+    (io : Io) (f g : Forecast) (n : ℕ) (before ran later : IoAnswer) → n ≤ 4294967295
+    → Foretold-io io f before → Ran-io (before .io) n ran → Foretold-io (ran .io) g later → g ≡ shortened n f
+
+abbrev pub Runs-add-io : Type 0
+Runs-add-io =
+    (io : Io) (a b : ℕ) (r s t : IoAnswer) → a + b ≤ 4294967295
+    → Ran-io io a r → Ran-io (r .io) b s → Ran-io io (a + b) t → s ≡ t
+
+abbrev pub Forecast-bound-io : Type 0
+Forecast-bound-io =
+    (m : List ℕ) (io : Io) (f : Forecast) (r : IoAnswer) (d : ℕ)
+    → Chips.Reached chip (beside m io) → Foretold-io io f r → f ≡ In d → d ≤ 261121
 
 -- a reset leaves power-up as it is
 abbrev pub Power-up-reset : Type 0

@@ -142,8 +142,7 @@ module _ (t : T1) (l : t .latch < 65536) (h : t .counter < 65536) where
       picked (λ (u : T1). (u .latch < 65536) × (u .counter < 65536)) (t .mark) (l, l)
       (picked (λ (u : T1). (u .latch < 65536) × (u .counter < 65536)) (eqb (t .counter) 0) (l, lit< tt) (l, omega arith))
 
-  pub due-most : AtMost 65537 (dueOf t)
-  due-most =
-      picked (AtMost 65537) (t .flag) (omega arith)
-      (most-gated 65537 (t .free || t .armed) (In (topOf t + 1))
-      (picked (λ (k : ℕ). k + 1 ≤ 65537) (t .mark) (omega arith) (omega arith)))
+  pub due-most : (n : ℕ) → 65537 ≤ n → AtMost n (dueOf t)
+  due-most n b =
+      picked (AtMost n) (t .flag) (omega arith)
+      (most-gated n (t .free || t .armed) (In (topOf t + 1)) (picked (λ (k : ℕ). k + 1 ≤ n) (t .mark) (omega arith) (omega arith)))

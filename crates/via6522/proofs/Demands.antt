@@ -1,102 +1,29 @@
 -- The statements of specs/Demands.antt, proved.
-use mathlib.Core.Path.{_≡_, refl, sym, ap, _∙_}
-use mathlib.Core.Bool.{Bool, true, false, _&&_, false≢true}
-use mathlib.Core.Logic.{_↔_}
+use mathlib.Core.Path.{_≡_, refl, ap, _∙_}
+use mathlib.Core.Bool.{Bool, true, false, _&&_}
 use Prim.Native.Nat.{ℕ, _<_}
-use native.Mathlib.Decide.{decLt}
 use native.Mathlib.Omega.{arith}
 use lib.Dec.{eqb, lit<}
 use Rattle.clocks.specs.Clocks.{if_then_else_}
 use Rattle.clocks.specs.Bits.{bit, withBit, withClear}
-use Rattle.clocks.specs.Forecasts.{soonerOf}
-use Rattle.clocks.specs.declared.Forecast.{Forecast}
-use Rattle.clocks.specs.declared.Forecast.the-variants.{Never, In}
-use Rattle.clocks.proofs.Forecasts.{comes-one, AtMost, most-sooner, most-gated, most-in}
-use Rattle.clocks.proofs.Bits.{bit-high, bit-with, bit-clear, shares-found, shares-by}
+use Rattle.clocks.proofs.Bits.{bit-with, bit-clear}
 use Rattle.calls.specs.declared.Call22.the-variants.{Read}
-use Rattle.chips.specs.Chips.{Reached, Foretold, next}
+use Rattle.chips.specs.Chips.{next}
 use Rattle.chips.proofs.Chips as Chips
 use Rattle.ports.specs.Ports.{linesFor}
 use Rattle.ports.proofs.Demands as Ports
-use Rattle.timers.proofs.Firsts as First
-use Rattle.timers.proofs.Seconds as Second
 use Rattle.timers.proofs.Passings.{rounds, idle}
 use Rattle.via6522.specs.Record.{wellFormed, resetOf}
-use Rattle.via6522.specs.Flags.{irqOf}
 use Rattle.via6522.specs.Ports.{linesB, shownA, shownB}
 use Rattle.via6522.specs.Clock.{timersOf, withTimers}
-use Rattle.via6522.specs.Closed.{steady, soonest}
-use Rattle.via6522.specs.Chip.{chip, clocked, Raised, largestForecast, lined, flags, readingOf}
+use Rattle.via6522.specs.Chip.{chip, clocked, lined, flags, readingOf}
 use Rattle.via6522.specs.Demands
-use Rattle.via6522.specs.declared.Via.{Via}
-use Rattle.via6522.specs.declared.Answer.{Answer}
 use Rattle.via6522.proofs.Formed.{formed}
-use Rattle.via6522.proofs.Keeps.{Ranged, leaves-ranged}
 use Rattle.via6522.proofs.Lens.{flag1, each-after}
-use Rattle.via6522.proofs.Lines.{line-after}
 use Rattle.via6522.proofs.Lawful.{lawful, ticks}
+use Rattle.via6522.proofs.Watched.{watched}
 
 -- ---- what is asked of every chip
-
--- the line of a record whose flags are seven bits
-raised : (v : Via) → v .ifr < 128 → (irqOf v ≡ true) ↔ Raised v
-raised v h = (λ e. let f = shares-found 8 (v .ifr) (v .ier) e in (f .0, f .2, f .3), λ f. back f)
-  where
-    small : (k : ℕ) → bit k (v .ifr) ≡ true → k < 8
-    small k e = go (decLt k 8)
-      where
-        go : Dec (k < 8) → k < 8
-        go (yes l) = l
-        go (no l) = absurd (false≢true (sym (bit-high 7 k (v .ifr) h (omega arith)) ∙ e))
-
-    back : Raised v → irqOf v ≡ true
-    back f = shares-by 8 (v .ifr) (v .ier) (f .0) (small (f .0) (f .1)) (f .1) (f .2)
-
-pub reached-ranged : (v : Via) → Reached chip v → Ranged v
-reached-ranged =
-    Chips.reached-keeps chip lawful Ranged (λ c v t e w. leaves-ranged c v t)
-    (record { latch = lit< tt; counter = lit< tt; low = lit< tt; counter2 = lit< tt })
-
--- no record in its ranges has a forecast above the largest
-pub forecast-most :
-    (v : Via) (f : Forecast) (r : Answer) → Ranged v → wellFormed v ≡ true → Foretold chip clocked lined v f r → AtMost largestForecast f
-unfolding soonest timersOf
-forecast-most v f r h w t = rw closed most
-  where
-    due1 : Forecast
-    due1 = First.dueOf (timersOf v .t1)
-
-    due2 : Forecast
-    due2 = Second.dueOf (timersOf v .t2)
-
-    closed : f ≡ soonest v due1 due2
-    closed = comes-one f _ (λ k. sym (t .told w k) ∙ line-after v due1 due2 (First.flag-due (timersOf v .t1)) (Second.flag-due (timersOf v .t2)) k)
-
-    first : Forecast
-    first = if bit 6 (v .ier) then due1 else Never
-
-    second : Forecast
-    second = if bit 5 (v .ier) then due2 else Never
-
-    now : Forecast
-    now = if steady v then In 0 else Never
-
-    most : AtMost 65537 (soonest v due1 due2)
-    most =
-        most-sooner 65537 first (soonerOf second now)
-        (most-gated 65537 (bit 6 (v .ier)) due1 (First.due-most (timersOf v .t1) (h .latch) (h .counter)))
-        (most-sooner 65537 second now (most-gated 65537 (bit 5 (v .ier)) due2 (Second.due-most (timersOf v .t2) (h .counter2) 65537 (omega arith)))
-        (most-gated 65537 (steady v) (In 0) (omega arith)))
-
-watched : Chips.Watched chip clocked lined
-watched =
-    record {
-      shows = λ d v. refl;
-      exact = λ v w. raised v (formed v w .flags);
-      bound = λ v f r d reached t e.
-          most-in largestForecast d f
-          (forecast-most v f r (reached-ranged v reached) (Chips.reached-well chip lawful v reached) t) e;
-    }
 
 pub answers : Demands.Answers
 answers = Chips.answers chip lawful
@@ -106,6 +33,28 @@ runs = Chips.runs chip lawful clocked ticks
 
 pub lines : Demands.Lines
 lines = Chips.lines chip lawful clocked ticks lined watched
+
+-- ---- what request 14 asks of forecasts
+pub forecast-keeps : Demands.Forecast-keeps
+forecast-keeps = Chips.forecast-keeps chip lawful clocked ticks lined watched
+
+pub never-stays : Demands.Never-stays
+never-stays = Chips.never-stays chip lawful clocked ticks lined watched
+
+pub forecast-shortened : Demands.Forecast-shortened
+forecast-shortened = Chips.forecast-shortened chip lawful clocked ticks lined watched
+
+pub runs-add : Demands.Runs-add
+runs-add = Chips.runs-add chip lawful clocked ticks
+
+pub forecast-bound : Demands.Forecast-bound
+forecast-bound = Chips.forecast-bound chip lawful clocked ticks lined watched
+
+pub forecast-attained : Demands.Forecast-attained
+forecast-attained = Chips.forecast-attained chip lawful clocked ticks lined watched
+
+pub largest-one : Demands.Largest-one
+largest-one = Chips.largest-one chip lawful clocked ticks lined watched
 
 -- ---- what is the chip's own
 pub power-up-reset : Demands.Power-up-reset

@@ -3,4 +3,5 @@ pub mod Lines
 pub mod Formed
 pub mod Keeps
 pub mod Lawful
+pub mod Watched
 pub mod Demands
