@@ -79,6 +79,19 @@ class Story:
             65536 * self.rng.randrange(1, 65536) + self.rng.choice((-2, -1, 0, 1)),
         ))
 
+    def kept(self, due):
+        """A forecast, a run or two, and a forecast of what is left of the first."""
+        rng = self.rng
+        yield self.forecast()
+        for _ in range(rng.choice((1, 1, 1, 2))):
+            yield self.run(draw(rng, (
+                (24, rng.randrange(due + 1)), (16, due - 1), (16, due), (8, due + 1), (14, 1), (6, 0),
+                (8, rng.randrange(300)), (8, self.huge()),
+            )))
+            if self.chance(15):
+                yield self.forecast()
+        yield self.forecast()
+
     def lines(self):
         """The whole story: phases, drawn by weight, without an end."""
         phases = self.phases()
@@ -284,7 +297,7 @@ class Story22(Story):
                 (46, self.t1_run), (14, self.t1_look), (9, self.t1_read_4), (6, self.t1_pb7),
                 (7, self.t1_latch), (4, self.t1_switch), (3, self.t1_again), (4, self.t1_clear),
                 (2, self.t1_enables), (1, self.t1_reset), (2, self.t1_refused), (2, self.t1_store),
-                (4, self.t1_watch),
+                (4, self.t1_watch), (9, self.t1_kept),
             ))()
 
     def t1_run(self):
@@ -384,6 +397,23 @@ class Story22(Story):
                 yield self.run(1)
                 yield self.t1_show()
 
+    def t1_kept(self):
+        """Forecasts across a run, for the most part in free-run, with T1's flag clear and alone enabled; a reload to come or not."""
+        if self.chance(70):
+            yield self.set_acr(self.acr | 0x40)
+        if self.chance(60):
+            yield self.write(14, 0x3F)
+            yield self.write(14, 0xC0)
+        if self.chance(40):
+            yield self.run(self.t1_due)
+        if self.chance(15):
+            self.set_latch(0xFFFF)
+            yield self.write(6, 255)
+            yield self.write(7, 255)
+        if self.chance(75):
+            yield self.rng.choice((self.read(4), self.clear_some()))
+        yield from self.kept(self.t1_due)
+
     def t1_low(self):
         """Disarmed in one-shot, then PB7 inverted in free-run: further one-shot passings leave it low."""
         yield from self.load_t1(self.rng.randrange(5))
@@ -405,8 +435,14 @@ class Story22(Story):
         yield from self.load_t2(self.count())
         for _ in range(rng.randrange(5, 30)):
             kind = rng.random()
-            if kind < 0.45:
+            if kind < 0.40:
                 yield self.aimed_run(self.t2_due)
+            elif kind < 0.45:
+                if self.chance(60):
+                    yield self.write(14, 0x5F)
+                    yield self.write(14, 0xA0)
+                    yield from self.load_t2(self.count())
+                yield from self.kept(self.t2_due)
             elif kind < 0.62:
                 yield self.look()
             elif kind < 0.72:
@@ -707,8 +743,13 @@ class Story32(Story):
             yield self.load(rng.randrange(4), value, self.chance(75))
         for _ in range(rng.randrange(5, 35)):
             kind = rng.random()
-            if kind < 0.47:
+            if kind < 0.41:
                 yield self.aimed_run()
+            elif kind < 0.47:
+                if self.chance(60):
+                    yield self.load(rng.randrange(4), rng.choice((1, 3, 255, 255, rng.randrange(256))), True)
+                    yield self.read_flags()
+                yield from self.kept(self.due)
             elif kind < 0.61:
                 yield self.read_timer()
             elif kind < 0.71:

@@ -7,11 +7,12 @@ tests/stored --make does that, and has the reference write the answers. The
 same bytes come out each time. The session begins with document 01's worked
 one and goes on rule by rule: every kind of frame, every refusal with each of
 its causes, what is easy to get wrong, the twelve marked cases, lines that are
-no frame, each register of each chip, what each read cleared, the longest runs.
-After a call that changes something come calls that show it, for a bench that
-gets the rule wrong has to answer one of them differently. The last 30,000 lines
-are made by sessions.py; they reach other states, and make the session nine times
-as long as the program's buffer, so that a program that stops reading is found.
+no frame, each register of each chip, what each read cleared, forecasts across
+runs, the longest runs. After a call that changes something come calls that show
+it, for a bench that gets the rule wrong has to answer one of them differently.
+The last 30,000 lines are made by sessions.py; they reach other states, and make
+the session nine times as long as the program's buffer, so that a program that
+stops reading is found.
 
 The longest runs are few: the reference also answers this session one clock at
 a time, and one such run of the 6522 alone takes it some five seconds.
@@ -634,6 +635,32 @@ def crtc_pen():
 
 # ---------------------------------------------------------- runs and the rest
 
+def forecasts_kept():
+    """Forecasts across runs: the largest of each chip in parts and then past it, the sooner of two, and never."""
+    def parts(chip, *runs):
+        yield forecast(chip)
+        for count in runs:
+            yield from (run(chip, count), forecast(chip))
+
+    for first in (0, 1, 2, 65_535, 65_536, 65_537, 65_538):
+        yield from clean_via(acr=0x40, enables=0x40)
+        yield from (*load_t1(0), run(VIA, 1), write(VIA, LATCH_LOW, 0xFF), write(VIA, LATCH_HIGH, 0xFF))
+        yield from parts(VIA, first, 1, 30_000, 35_535, 1, 70_000)
+    # A disarmed one-shot, flags that are not enabled, and a T2 that waits for pulses.
+    for acr, enables in ((0, 0x40), (0x40, 0x20), (0x20, 0x20)):
+        yield from clean_via(acr=acr, enables=enables)
+        yield from (*load_t1(2), run(VIA, 3), write(VIA, IFR, 0x7F), *parts(VIA, 0, 1, 4, 65_537, 1_000_003))
+    yield from clean_via(enables=0x60)
+    yield from (*load_t1(900), *load_t2(300), *parts(VIA, 100, 200, 1), read(VIA, T2_LOW), *parts(VIA, 598, 1, 1, 1))
+    for divider, size in enumerate((1, 8, 64, 1024)):
+        due = 1 + 255 * size
+        for enabled in (True, False):
+            for first in (0, 1, size, due - 1, due, due + 1):
+                yield from (load_timer(divider, 255, enabled), *parts(RIOT, first, 1, 100, 255, 1_000_003))
+    # Once expired, and read, it is never asserted again.
+    yield from (load_timer(0, 3, True), run(RIOT, 4), read(RIOT, TIMER_ON), *parts(RIOT, 0, 1, 256, 300_000))
+
+
 def longest_runs():
     """T1 in both modes, T2, and a 6532 timer, each over 4,294,967,295 clocks; the 6545 has its own limit."""
     for acr in (0x80, 0xC0):
@@ -664,7 +691,7 @@ SECTIONS = (
     worked_session, as_they_come, every_frame, resets, no_frames, no_such_register, forms_left_out, levels_too_high,
     runs_too_long, easy_to_get_wrong, marked_cases, hostile_lines, via_registers, via_lines, via_edges,
     via_port_flags, via_timers, via_cleared, riot_memory, riot_addresses, riot_timer, riot_pa7, riot_cleared,
-    crtc_registers, crtc_screens, crtc_cursor, crtc_lowered, crtc_pen, longest_runs, generated,
+    crtc_registers, crtc_screens, crtc_cursor, crtc_lowered, crtc_pen, forecasts_kept, longest_runs, generated,
 )
 
 

@@ -27,7 +27,7 @@ use Rattle.riot6532.proofs.Keeps.{leaves-reached}
 use Rattle.riot6532.proofs.Lawful.{lawful, ticks}
 
 -- when the line is asserted
-abbrev pub ahead : Riot → Forecast
+abbrev ahead : Riot → Forecast
 ahead v = soonestOf (dueOf (v .io .timer)) (v .io)
 
 tells : (v : Riot) → wellFormed v ≡ true → (k : ℕ) → line chip clocked lined k v ≡ comes (ahead v) k
@@ -41,7 +41,13 @@ ahead-most n v h =
     (most-gated n (v .io .timer .enable) (dueOf (v .io .timer)) h)
     (most-gated n other (In 0) zero-le)
 
--- and as late as can be where the timer was just loaded with 255 over 1024, and enabled
+-- in a record with a reached timer no later than the largest forecast
+ahead-reached : (v : Riot) → wellFormed v ≡ true → Interval.Reached (v .io .timer) → AtMost largestForecast (ahead v)
+ahead-reached v w r =
+    let t = v .io .timer in
+    ahead-most largestForecast v (most-reached largestForecast t (dueOf t) (lit≤ tt) r (due-is t w))
+
+-- and just then where the timer was loaded with 255 over 1024, and enabled
 farthest : (v : Riot) × Reached chip v × (ahead v ≡ In largestForecast)
 unfolding answer bit ioWritten writeOf
 farthest = (_, by (Write 159 255) (lit< tt, lit< tt) at-power-up, refl)
@@ -57,9 +63,7 @@ watched =
       Kept = λ v. Interval.Reached (v .io .timer);
       kept-first = Interval.at-power-up;
       kept-next = λ c v t n w. leaves-reached c v t;
-      most = λ v w r.
-          let t = v .io .timer in
-          ahead-most largestForecast v (most-reached largestForecast t (dueOf t) (lit≤ tt) r (due-is t w));
+      most = ahead-reached;
       farthest = farthest;
     }
 
