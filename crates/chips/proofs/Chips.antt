@@ -17,7 +17,7 @@ use Rattle.clocks.proofs.Bits.{gone-none}
 use Rattle.clocks.proofs.Clocks.{after-add, after-keeps, run-calls}
 use Rattle.clocks.proofs.Forecasts.{comes-one, told-least, told-never, shortened-comes, AtMost, most-in}
 use Rattle.chips.specs.Chips
-use Rattle.chips.specs.Chips.{Chip, first, answer, next, Reached, at-power-up, by, Answers, Clocked, Runs, Lined, line, Foretold, Lines, clearedBy}
+use Rattle.chips.specs.Chips.{Chip, first, answer, next, Reached, at-power-up, by, Answers, Clocked, Runs, Lined, line, Foretold, Lines, Keeps-word, Largest-forecast, clearedBy}
 
 -- ---- an answer, where the number that applies first is known
 
@@ -287,7 +287,7 @@ module _ (C : Chip) (S : Lawful C) (T : Clocked C) (K : Ticks C T) (L : Lined C)
       }
 
   -- a run between two forecasts: of a well-formed record they speak of the same moments, and an ill-formed one comes back from it
-  pub forecast-shortened : Chips.Forecast-shortened C T L
+  forecast-shortened : Chips.Forecast-shortened C T L
   forecast-shortened v f g m t = go (C .well v) refl
     where
       ran : C .left (t .ran) ≡ next C (T .run m) v
@@ -307,11 +307,13 @@ module _ (C : Chip) (S : Lawful C) (T : Clocked C) (K : Ticks C T) (L : Lined C)
           let e = ran ∙ ill-leaves C S (T .run m) v w in
           t .again .refused (ap (C .well) e ∙ w) ∙ ap In (omega arith) ∙ sym (ap (shortened m) (t .foretold .refused w))
 
-  pub forecast-keeps : Chips.Forecast-keeps C T L
-  forecast-keeps v f g k m t e h = forecast-shortened v f g m t ∙ ap (shortened m) e
-
-  pub never-stays : Chips.Never-stays C T L
-  never-stays v f g m t e = forecast-shortened v f g m t ∙ ap (shortened m) e
+  pub keeps-word : Keeps-word C T L
+  keeps-word =
+      record {
+        forecast-keeps = λ v f g k m t e h. forecast-shortened v f g m t ∙ ap (shortened m) e;
+        never-stays = λ v f g m t e. forecast-shortened v f g m t ∙ ap (shortened m) e;
+        forecast-shortened = forecast-shortened;
+      }
 
   -- what is worked out is what a forecast promises, and all that it can be
   pub foretold-is : (v : C .State) (f : Forecast) (r : C .Answer) → C .well v ≡ true → Foretold C T L v f r → f ≡ W .ahead v
@@ -320,12 +322,12 @@ module _ (C : Chip) (S : Lawful C) (T : Clocked C) (K : Ticks C T) (L : Lined C)
   pub reached-kept : (v : C .State) → Reached C v → W .Kept v
   reached-kept = reached-keeps C S (W .Kept) (W .kept-next) (W .kept-first)
 
-  pub forecast-bound : Chips.Forecast-bound C T L
+  forecast-bound : Chips.Forecast-bound C T L
   forecast-bound v f r d reached t e =
       let w = reached-well C S v reached in
       most-in (L .largest) d (W .ahead v) (W .most v w (reached-kept v reached)) (sym (foretold-is v f r w t) ∙ e)
 
-  pub forecast-attained : Chips.Forecast-attained C T L
+  forecast-attained : Chips.Forecast-attained C T L
   forecast-attained =
       let v = W .farthest .0 in
       let w = reached-well C S v (W .farthest .1) in
@@ -341,12 +343,15 @@ module _ (C : Chip) (S : Lawful C) (T : Clocked C) (K : Ticks C T) (L : Lined C)
       )
 
   -- of two numbers that are attained each bounds the other
-  pub largest-one : Chips.Largest-one C T L
+  largest-one : Chips.Largest-one C T L
   largest-one n bound (v, r, reached, t) =
       let above = forecast-bound v (In n) r n reached t refl in
       let (u, s, far, told) = forecast-attained in
       let below = bound u (In (L .largest)) s (L .largest) far told refl in
       omega arith
+
+  pub largest-forecast : Largest-forecast C T L
+  largest-forecast = record { forecast-bound = forecast-bound; forecast-attained = forecast-attained; largest-one = largest-one }
 
 -- ---- what a call cleared
 module _ (C : Chip) (S : Lawful C) (flags : C .State → ℕ) where

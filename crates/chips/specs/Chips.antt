@@ -1,6 +1,6 @@
 -- One theory for all chips of the bench: what makes a chip, its answer to a call, the records that can come up, and the demands on them.
--- Each chip's specs/Chip.antt fills in Chip, Clocked and Lined; its specs/Demands.antt asks for Answers, Runs and Lines of them, and for
--- what request 14 has of forecasts.
+-- Each chip's specs/Chip.antt fills in Chip, Clocked and Lined; its specs/Demands.antt asks for Answers, Runs and Lines of them, and where
+-- there is a line for Keeps-word and Largest-forecast.
 use mathlib.Core.Path.{_≡_}
 use mathlib.Core.Bool.{Bool, true, false}
 use mathlib.Core.Logic.{_↔_}
@@ -225,6 +225,11 @@ module _ (C : Chip) (T : Clocked C) (L : Lined C) where
   abbrev pub Forecast-shortened : Type 0
   Forecast-shortened = (v : C .State) (f g : Forecast) (m : ℕ) → Retold v f m g → g ≡ shortened m f
 
+  pub record Keeps-word : Type 0 where
+    pub forecast-keeps : Forecast-keeps
+    pub never-stays : Never-stays
+    pub forecast-shortened : Forecast-shortened
+
   -- no forecast of a reached record is above n, unless it is never; one of them is n
   abbrev pub Bounded : ℕ → Type 0
   Bounded n = (v : C .State) (f : Forecast) (r : C .Answer) (d : ℕ) → Reached C v → Foretold C T L v f r → f ≡ In d → d ≤ n
@@ -241,6 +246,11 @@ module _ (C : Chip) (T : Clocked C) (L : Lined C) where
 
   abbrev pub Largest-one : Type 0
   Largest-one = (n : ℕ) → Bounded n → Attained n → n ≡ L .largest
+
+  pub record Largest-forecast : Type 0 where
+    pub forecast-bound : Forecast-bound
+    pub forecast-attained : Forecast-attained
+    pub largest-one : Largest-one
 
 -- ---- request 03: what a call cleared
 

@@ -32,26 +32,14 @@ pub lines : Demands.Lines
 lines = Chips.lines chip lawful clocked ticks lined watched
 
 -- what request 14 asks of forecasts
-pub forecast-keeps : Demands.Forecast-keeps
-forecast-keeps = Chips.forecast-keeps chip lawful clocked ticks lined watched
-
-pub never-stays : Demands.Never-stays
-never-stays = Chips.never-stays chip lawful clocked ticks lined watched
-
-pub forecast-shortened : Demands.Forecast-shortened
-forecast-shortened = Chips.forecast-shortened chip lawful clocked ticks lined watched
+pub keeps-word : Demands.Keeps-word
+keeps-word = Chips.keeps-word chip lawful clocked ticks lined watched
 
 pub runs-add : Demands.Runs-add
 runs-add = Chips.runs-add chip lawful clocked ticks
 
-pub forecast-bound : Demands.Forecast-bound
-forecast-bound = Chips.forecast-bound chip lawful clocked ticks lined watched
-
-pub forecast-attained : Demands.Forecast-attained
-forecast-attained = Chips.forecast-attained chip lawful clocked ticks lined watched
-
-pub largest-one : Demands.Largest-one
-largest-one = Chips.largest-one chip lawful clocked ticks lined watched
+pub largest-forecast : Demands.Largest-forecast
+largest-forecast = Chips.largest-forecast chip lawful clocked ticks lined watched
 
 pub power-up-reset : Demands.Power-up-reset
 power-up-reset = refl
@@ -67,7 +55,7 @@ whole-one m n r s e = (ap (λ (a : Answer). a .riot .ram) e, ap apart e)
 -- what holds with any RAM beside it holds with an empty one
 pub forecast-shortened-io : Demands.Forecast-shortened-io
 forecast-shortened-io io f g n before ran later h p q t =
-    forecast-shortened (beside [] io) f g n
+    keeps-word .forecast-shortened (beside [] io) f g n
     (record { before = whole [] before; ran = whole [] ran; later = whole [] later; foretold = p []; at-most = h; run = q []; again = t [] })
 
 pub runs-add-io : Demands.Runs-add-io
@@ -75,7 +63,7 @@ runs-add-io io a b r s t h p q e =
     whole-one [] [] s t (runs-add (beside [] io) a b (whole [] r) (whole [] s) (whole [] t) h (p []) (q []) (e [])) .1
 
 pub forecast-bound-io : Demands.Forecast-bound-io
-forecast-bound-io m io f r d reached t e = forecast-bound (beside m io) f (whole m r) d reached (t m) e
+forecast-bound-io m io f r d reached t e = largest-forecast .forecast-bound (beside m io) f (whole m r) d reached (t m) e
 
 pub whole-reading-one : Demands.Whole-reading-one
 unfolding apart

@@ -35,26 +35,14 @@ pub lines : Demands.Lines
 lines = Chips.lines chip lawful clocked ticks lined watched
 
 -- ---- what request 14 asks of forecasts
-pub forecast-keeps : Demands.Forecast-keeps
-forecast-keeps = Chips.forecast-keeps chip lawful clocked ticks lined watched
-
-pub never-stays : Demands.Never-stays
-never-stays = Chips.never-stays chip lawful clocked ticks lined watched
-
-pub forecast-shortened : Demands.Forecast-shortened
-forecast-shortened = Chips.forecast-shortened chip lawful clocked ticks lined watched
+pub keeps-word : Demands.Keeps-word
+keeps-word = Chips.keeps-word chip lawful clocked ticks lined watched
 
 pub runs-add : Demands.Runs-add
 runs-add = Chips.runs-add chip lawful clocked ticks
 
-pub forecast-bound : Demands.Forecast-bound
-forecast-bound = Chips.forecast-bound chip lawful clocked ticks lined watched
-
-pub forecast-attained : Demands.Forecast-attained
-forecast-attained = Chips.forecast-attained chip lawful clocked ticks lined watched
-
-pub largest-one : Demands.Largest-one
-largest-one = Chips.largest-one chip lawful clocked ticks lined watched
+pub largest-forecast : Demands.Largest-forecast
+largest-forecast = Chips.largest-forecast chip lawful clocked ticks lined watched
 
 -- ---- what is the chip's own
 pub power-up-reset : Demands.Power-up-reset
