@@ -11,6 +11,8 @@ NEVER = 0xFFFFFFFF
 # The largest forecast of each chip that has one.
 LARGEST = {b"22": 65_537, b"32": 261_121}
 RUN = re.compile(rb"(22|32)05([0-9A-F]{8})")
+RUN_ANSWER = re.compile(rb"000([01])")
+FORECAST_ANSWER = re.compile(rb"000([01])([0-9A-F]{8})")
 
 
 class Word:
@@ -23,9 +25,12 @@ class Word:
     def say(self, forecast):
         self.said, self.ran = forecast, 0
 
-    def wanted(self):
+    def left(self):
         """What a forecast has to be now."""
         return NEVER if self.said == NEVER else max(0, self.said - self.ran)
+
+    def told(self):
+        return f"after {self.ran} clocks of {self.said}"
 
 
 class Kept:
@@ -43,30 +48,42 @@ class Kept:
             # A refused line changes nothing.
             if word is None or answer[:2] != b"00":
                 continue
-            fault = self.hold_line(word, LARGEST[line[:2]], line, answer)
+            fault = self.hold_line(word, line, answer)
             if fault:
-                self.broken.append(f"  line {number}: {line.decode()}: {answer.decode()}, {fault}")
+                self.broken.append(f"  line {number}: {line!r}: {answer!r}, {fault}")
 
-    def hold_line(self, word, largest, line, answer):
+    def hold_line(self, word, line, answer):
         """One accepted line of a chip; gives what is wrong with its answer."""
-        call = line[2:4]
+        if line[2:4] == b"06":
+            return self.hold_forecast(word, LARGEST[line[:2]], FORECAST_ANSWER.fullmatch(answer))
+        if line[2:4] == b"05":
+            return self.hold_run(word, RUN.fullmatch(line), RUN_ANSWER.fullmatch(answer))
+        word.say(None)
+        return None
+
+    def hold_forecast(self, word, largest, answer):
+        if answer is None:
+            return "no answer to a forecast"
+        forecast = int(answer[2], 16)
         fault = None
-        if call == b"06":
-            forecast = int(answer[4:], 16)
-            if forecast != NEVER and forecast > largest:
-                fault = f"above {largest}"
-            elif word.said is not None:
-                self.forecasts += 1
-                fault = None if forecast == word.wanted() else f"after {word.ran} clocks of {word.said}"
-            word.say(forecast)
-        elif call == b"05" and word.said is not None:
-            self.runs += 1
-            word.ran += int(line[4:], 16)
-            if (answer[2:] == b"01") != (word.wanted() == 0):
-                fault = f"after {word.ran} clocks of {word.said}"
-        elif call != b"05":
-            word.say(None)
+        if (answer[1] == b"1") != (forecast == 0):
+            fault = "and the line"
+        elif largest < forecast != NEVER:
+            fault = f"above {largest}"
+        elif word.said is not None:
+            self.forecasts += 1
+            fault = None if forecast == word.left() else word.told()
+        word.say(forecast)
         return fault
+
+    def hold_run(self, word, run, answer):
+        if run is None or answer is None:
+            return "no answer to a run"
+        if word.said is None:
+            return None
+        self.runs += 1
+        word.ran += int(run[2], 16)
+        return None if (answer[1] == b"1") == (word.left() == 0) else word.told()
 
 
 def in_parts(session, rng):
@@ -76,7 +93,7 @@ def in_parts(session, rng):
         run = RUN.fullmatch(line)
         if run:
             clocks = int(run[2], 16)
-            part = rng.choice((0, clocks, rng.randrange(clocks + 1)))
+            part = min(clocks, rng.choice((0, 1, max(1, clocks) - 1, rng.randrange(clocks + 1), rng.randrange(clocks + 1))))
             firsts.add(len(lines))
             lines.append(b"%s05%08X" % (run[1], part))
             line = b"%s05%08X" % (run[1], clocks - part)

@@ -111,7 +111,7 @@ def held(pipe):
 
 # ---------------------------------------------------------------- comparing
 
-def difference(session, wanted, got):
+def difference(session, wanted, got, names=("reference", "bench")):
     """Says where two outputs part."""
     wanted, got = wanted.split(b"\n"), got.split(b"\n")
     number = next((number for number, (one, two) in enumerate(zip(wanted, got)) if one != two), min(len(wanted), len(got)))
@@ -121,5 +121,5 @@ def difference(session, wanted, got):
     def at(parts):
         return repr(parts[number])[1:200] if number < len(parts) else "nothing"
 
-    return (f"  line {number + 1}: {at(lines)}\n  reference: {at(wanted)}\n  bench:     {at(got)}\n"
+    return (f"  line {number + 1}: {at(lines)}\n  {names[0]}: {at(wanted)}\n  {names[1]}: {at(got)}\n"
             f"  the session is kept: {os.path.relpath(session)}")

@@ -398,7 +398,7 @@ class Story22(Story):
                 yield self.t1_show()
 
     def t1_kept(self):
-        """Forecasts across a run, for the most part in free-run, with T1's flag clear and alone enabled; a reload to come or not."""
+        """Forecasts across runs, mostly in free-run with T1's flag clear and alone enabled; a reload to come or not."""
         if self.chance(70):
             yield self.set_acr(self.acr | 0x40)
         if self.chance(60):

@@ -649,7 +649,7 @@ def forecasts_kept():
     # A disarmed one-shot, flags that are not enabled, and a T2 that waits for pulses.
     for acr, enables in ((0, 0x40), (0x40, 0x20), (0x20, 0x20)):
         yield from clean_via(acr=acr, enables=enables)
-        yield from (*load_t1(2), run(VIA, 3), write(VIA, IFR, 0x7F), *parts(VIA, 0, 1, 4, 65_537, 1_000_003))
+        yield from (*load_t1(2), *load_t2(2), run(VIA, 3), write(VIA, IFR, 0x7F), *parts(VIA, 0, 1, 4, 65_537, 1_000_003))
     yield from clean_via(enables=0x60)
     yield from (*load_t1(900), *load_t2(300), *parts(VIA, 100, 200, 1), read(VIA, T2_LOW), *parts(VIA, 598, 1, 1, 1))
     for divider, size in enumerate((1, 8, 64, 1024)):

@@ -315,7 +315,7 @@ module _ (C : Chip) (S : Lawful C) (T : Clocked C) (K : Ticks C T) (L : Lined C)
         forecast-shortened = forecast-shortened;
       }
 
-  -- what is worked out is what a forecast promises, and all that it can be
+  -- a forecast of a well-formed record can only be the one that is worked out
   pub foretold-is : (v : C .State) (f : Forecast) (r : C .Answer) → C .well v ≡ true → Foretold C T L v f r → f ≡ W .ahead v
   foretold-is v f r w t = comes-one f (W .ahead v) (λ k. sym (t .told w k) ∙ W .tells v w k)
 
@@ -342,7 +342,7 @@ module _ (C : Chip) (S : Lawful C) (T : Clocked C) (K : Ticks C T) (L : Lined C)
         },
       )
 
-  -- of two numbers that are attained each bounds the other
+  -- of two bounds that are attained each is at most the other
   largest-one : Chips.Largest-one C T L
   largest-one n bound (v, r, reached, t) =
       let above = forecast-bound v (In n) r n reached t refl in

@@ -1,6 +1,6 @@
 -- One theory for all chips of the bench: what makes a chip, its answer to a call, the records that can come up, and the demands on them.
--- Each chip's specs/Chip.antt fills in Chip, Clocked and Lined; its specs/Demands.antt asks for Answers, Runs and Lines of them, and where
--- there is a line for Keeps-word and Largest-forecast.
+-- Each chip's specs/Chip.antt fills in Chip, Clocked and Lined; its specs/Demands.antt asks for Answers and Runs of them, and where there
+-- is an interrupt line for Lines, Keeps-word and Largest-forecast.
 use mathlib.Core.Path.{_≡_}
 use mathlib.Core.Bool.{Bool, true, false}
 use mathlib.Core.Logic.{_↔_}
@@ -221,7 +221,7 @@ module _ (C : Chip) (T : Clocked C) (L : Lined C) where
   abbrev pub Never-stays : Type 0
   Never-stays = (v : C .State) (f g : Forecast) (m : ℕ) → Retold v f m g → f ≡ Never → g ≡ Never
 
-  -- both by one equation, and runs beyond the forecast with them, after which it is 0
+  -- both by one equation; after a longer run than was forecast it is 0
   abbrev pub Forecast-shortened : Type 0
   Forecast-shortened = (v : C .State) (f g : Forecast) (m : ℕ) → Retold v f m g → g ≡ shortened m f
 

@@ -42,7 +42,7 @@ module _ (line : ℕ → Bool) (f : Forecast) (told : (k : ℕ) → line k ≡ c
   told-never =
       (λ e j. told j ∙ ap (λ (g : Forecast). comes g j) e, λ h. comes-one f Never (λ k. sym (told k) ∙ h k))
 
--- m clocks later, a forecast has come by the same moment
+-- what is forecast has come j clocks after a run of m exactly when it has come m + j clocks from now
 pub shortened-comes : (m : ℕ) (f : Forecast) (j : ℕ) → comes (shortened m f) j ≡ comes f (m + j)
 shortened-comes m Never j = refl
 shortened-comes m (In d) j = go (decLe d (m + j))

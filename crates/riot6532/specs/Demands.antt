@@ -12,7 +12,7 @@ use Rattle.chips.specs.Chips
 use Rattle.chips.specs.Chips.{answer}
 use Rattle.riot6532.specs.Record.{beside, powerUp, resetOf}
 use Rattle.riot6532.specs.Flags.{flagAt}
-use Rattle.riot6532.specs.Chip.{chip, clocked, lined, whole, readingOf, wholeReading}
+use Rattle.riot6532.specs.Chip.{chip, clocked, lined, largestForecast, whole, readingOf, wholeReading}
 use Rattle.riot6532.specs.declared.Io.{Io}
 use Rattle.riot6532.specs.declared.Riot.{Riot}
 use Rattle.riot6532.specs.declared.IoAnswer.{IoAnswer}
@@ -52,18 +52,18 @@ Foretold-io io f r = (m : List ℕ) → Chips.Foretold chip clocked lined (besid
 
 abbrev pub Forecast-shortened-io : Type 0
 Forecast-shortened-io =
-    (io : Io) (f g : Forecast) (n : ℕ) (before ran later : IoAnswer) → n ≤ 4294967295
+    (io : Io) (f g : Forecast) (n : ℕ) (before ran later : IoAnswer) → n ≤ clocked .longest
     → Foretold-io io f before → Ran-io (before .io) n ran → Foretold-io (ran .io) g later → g ≡ shortened n f
 
 abbrev pub Runs-add-io : Type 0
 Runs-add-io =
-    (io : Io) (a b : ℕ) (r s t : IoAnswer) → a + b ≤ 4294967295
+    (io : Io) (a b : ℕ) (r s t : IoAnswer) → a + b ≤ clocked .longest
     → Ran-io io a r → Ran-io (r .io) b s → Ran-io io (a + b) t → s ≡ t
 
 abbrev pub Forecast-bound-io : Type 0
 Forecast-bound-io =
     (m : List ℕ) (io : Io) (f : Forecast) (r : IoAnswer) (d : ℕ)
-    → Chips.Reached chip (beside m io) → Foretold-io io f r → f ≡ In d → d ≤ 261121
+    → Chips.Reached chip (beside m io) → Foretold-io io f r → f ≡ In d → d ≤ largestForecast
 
 -- a reset leaves power-up as it is
 abbrev pub Power-up-reset : Type 0

@@ -34,7 +34,7 @@ runs = Chips.runs chip lawful clocked ticks
 pub lines : Demands.Lines
 lines = Chips.lines chip lawful clocked ticks lined watched
 
--- ---- what request 14 asks of forecasts
+-- ---- what request 14 asks
 pub keeps-word : Demands.Keeps-word
 keeps-word = Chips.keeps-word chip lawful clocked ticks lined watched
 

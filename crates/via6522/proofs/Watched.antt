@@ -77,11 +77,11 @@ ahead-most v h =
     (most-gated n (bit 5 (v .ier)) (due2 v) (Seconds.due-most (timersOf v .t2) (h .counter2) n (lit≤ tt)))
     (most-gated n (steady v) (In 0) zero-le))
 
--- and one has it just then: T1 in free-run, its flag alone enabled, passes zero with its first clock; then its latch is filled, which
--- clears the flag
 call : {v : Via} (c : Call22) → Typed22 c → Reached chip v → Reached chip (next chip c v)
 call = by
 
+-- and one has it just then: T1 in free-run, its flag alone enabled, passes zero with its first clock; then its latch is filled, which
+-- clears the flag
 farthest : (v : Via) × Reached chip v × (ahead v ≡ In largestForecast)
 unfolding
     answer after bit withBit withSet withClear shares steady soonest timersOf withTimers clockOf First.clocked Second.clocked Second.counted
