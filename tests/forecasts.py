@@ -67,7 +67,7 @@ class Kept:
         forecast = int(answer[2], 16)
         fault = None
         if (answer[1] == b"1") != (forecast == 0):
-            fault = "and the line"
+            fault = "but it is 0 exactly where the line is asserted"
         elif largest < forecast != NEVER:
             fault = f"above {largest}"
         elif word.said is not None:
