@@ -76,8 +76,20 @@ mod acr {
     pub const TIMER_ON_PB7: u8 = 0x80;
 }
 
+/// The shift modes that are built, as ACR's bits 4..2 number them.
+mod shift {
+    pub const OFF: u8 = 0;
+    pub const IN_BY_CLOCKS: u8 = 2;
+    pub const IN_BY_CB1: u8 = 3;
+    pub const OUT_BY_CLOCKS: u8 = 6;
+    pub const OUT_BY_CB1: u8 = 7;
+}
+
 const PB6: u8 = 0x40;
 const PB7: u8 = 0x80;
+
+/// Shifts that an access of SR begins.
+const BITS_OF_SR: u8 = 8;
 
 #[derive(Clone)]
 struct Chip6522 {
@@ -100,6 +112,13 @@ struct Chip6522 {
     t2_low_latch: u8,
     t2_armed: bool,
     sr: u8,
+    /// Of the byte under way; 0 to 8.
+    shifts_to_come: u8,
+    /// Every second clock shifts; set means that the next one does.
+    half_clock: bool,
+    /// The bit that the last output shift put on CB2; true is high. No session
+    /// line shows it.
+    cb2_output: bool,
     acr: u8,
     pcr: u8,
     ifr: u8,
@@ -112,7 +131,8 @@ impl Chip6522 {
     /// Within 65,537 clocks (a T1 reload, 65,535 steps down, the passing) each
     /// timer that counts has passed zero. If it is ever to set its flag, that
     /// passing does: free-run flags every passing, an armed timer its first,
-    /// and clocks arm nothing. The factor adds one whole cycle, so that the
+    /// and clocks arm nothing. A byte that clocks shift is through long before,
+    /// and clocks begin no other. The factor adds one whole cycle, so that the
     /// look would also meet a flag that came a cycle late.
     const LOOK: u32 = 2 * 65_537;
 
@@ -136,6 +156,9 @@ impl Chip6522 {
             t2_low_latch: 0xFF,
             t2_armed: false,
             sr: 0,
+            shifts_to_come: 0,
+            half_clock: false,
+            cb2_output: false,
             acr: 0,
             pcr: 0,
             ifr: 0,
@@ -158,6 +181,9 @@ impl Chip6522 {
         self.t1_armed = false;
         self.t2_armed = false;
         self.timer_level = true;
+        self.shifts_to_come = 0;
+        self.half_clock = false;
+        self.cb2_output = false;
     }
 
     fn interrupt(&self) -> bool {
@@ -223,6 +249,16 @@ impl Chip6522 {
         }
     }
 
+    /// A read or a write of SR. It begins a byte, but not in the mode that
+    /// shifts nothing.
+    fn touch_sr(&mut self) {
+        self.ifr &= !flag::SR;
+        if shift_mode(self.acr) != shift::OFF {
+            self.shifts_to_come = BITS_OF_SR;
+            self.half_clock = false;
+        }
+    }
+
     fn read(&mut self, register: u8) -> Checked<Reading> {
         let before = self.ifr;
         let data = self.read_data(register)?;
@@ -256,7 +292,7 @@ impl Chip6522 {
             }
             9 => high_byte(self.t2_counter),
             10 => {
-                self.ifr &= !flag::SR;
+                self.touch_sr();
                 self.sr
             }
             11 => self.acr,
@@ -302,13 +338,16 @@ impl Chip6522 {
             }
             10 => {
                 self.sr = value;
-                self.ifr &= !flag::SR;
+                self.touch_sr();
             }
             11 => {
-                if value & acr::SHIFT_MODE != 0 {
+                if is_paced_by_t2(shift_mode(value)) {
                     return Err(FORM_LEFT_OUT);
                 }
                 self.acr = value;
+                // A byte under way is given up, even where the mode is the same.
+                self.shifts_to_come = 0;
+                self.half_clock = false;
             }
             12 => {
                 let (ca2, cb2) = ((value >> 1) & 7, (value >> 5) & 7);
@@ -369,7 +408,40 @@ impl Chip6522 {
         if pulse && self.acr_has(acr::T2_PULSES) {
             self.count_t2();
         }
+        if rose & control::CB1 != 0 && is_paced_by_cb1(shift_mode(self.acr)) {
+            self.shift_by_cb1();
+        }
         Ok(())
+    }
+
+    /// CB1's pulses need no access before them: with none to come the next
+    /// pulse is the first of eight.
+    fn shift_by_cb1(&mut self) {
+        if self.shifts_to_come == 0 {
+            self.shifts_to_come = BITS_OF_SR;
+        }
+        self.shift();
+    }
+
+    /// One shift, of a byte that has some to come.
+    fn shift(&mut self) {
+        let entering = if shifts_out(shift_mode(self.acr)) {
+            // What leaves at bit 7 comes back at bit 0.
+            self.cb2_output = self.sr & 0x80 != 0;
+            self.cb2_output
+        } else {
+            self.cb2_is_high()
+        };
+        self.sr = (self.sr << 1) | u8::from(entering);
+        self.shifts_to_come -= 1;
+        if self.shifts_to_come == 0 {
+            self.ifr |= flag::SR;
+        }
+    }
+
+    /// CB2's outside level, whatever PCR makes of the pin.
+    fn cb2_is_high(&self) -> bool {
+        self.outside_control & control::CB2 != 0
     }
 
     // One clock.
@@ -378,6 +450,9 @@ impl Chip6522 {
         self.clock_t1();
         if !self.acr_has(acr::T2_PULSES) {
             self.count_t2();
+        }
+        if self.clocks_shift() {
+            self.clock_sr();
         }
     }
 
@@ -419,6 +494,18 @@ impl Chip6522 {
         }
     }
 
+    /// Whether clocks have a byte to shift: they end one and begin none.
+    fn clocks_shift(&self) -> bool {
+        self.shifts_to_come > 0 && is_paced_by_clocks(shift_mode(self.acr))
+    }
+
+    fn clock_sr(&mut self) {
+        if self.half_clock {
+            self.shift();
+        }
+        self.half_clock = !self.half_clock;
+    }
+
     fn run_by_clocks(&mut self, clocks: u32) {
         for _ in 0..clocks {
             self.clock();
@@ -431,6 +518,9 @@ impl Chip6522 {
         self.run_t1(clocks);
         if !self.acr_has(acr::T2_PULSES) {
             self.run_t2(clocks);
+        }
+        if let Some(due) = self.sr_due() {
+            self.run_sr(due.saturating_sub(clocks));
         }
     }
 
@@ -472,6 +562,42 @@ impl Chip6522 {
         self.t2_counter = self.t2_counter.wrapping_sub(clocks as u16);
     }
 
+    /// Clocks until the last shift of a byte that clocks shift: two for each to
+    /// come, less the one that set the mark. None without such a byte.
+    fn sr_due(&self) -> Option<u32> {
+        if self.clocks_shift() {
+            Some(2 * u32::from(self.shifts_to_come) - u32::from(self.half_clock))
+        } else {
+            None
+        }
+    }
+
+    /// Goes on to where `left` clocks are left until the last shift; 0 is past it.
+    fn run_sr(&mut self, left: u32) {
+        let to_come = left.div_ceil(2) as u8;
+        let done = self.shifts_to_come - to_come;
+        self.shifts_to_come = to_come;
+        self.half_clock = left % 2 == 1;
+        if left == 0 {
+            self.ifr |= flag::SR;
+        }
+        // Behind the byte stand the eight bits that would follow it in: its own
+        // where they come round, else CB2's level, which a run leaves still.
+        let out = shifts_out(shift_mode(self.acr));
+        let behind = if out {
+            self.sr
+        } else if self.cb2_is_high() {
+            0xFF
+        } else {
+            0
+        };
+        self.sr = high_byte(word(self.sr, behind) << done);
+        if out && done > 0 {
+            // The last bit to leave is the last that came round.
+            self.cb2_output = self.sr & 1 != 0;
+        }
+    }
+
     /// Clocks until the interrupt line is asserted if nothing else happens;
     /// 0 if it is asserted now, None for never.
     fn forecast(&self) -> Option<u32> {
@@ -481,13 +607,13 @@ impl Chip6522 {
         // An enabled flag is clear here, or the line would be asserted.
         let t1 = self.ier & flag::T1 != 0 && (self.acr_has(acr::FREE_RUN) || self.t1_armed);
         let t2 = self.ier & flag::T2 != 0 && self.t2_armed && !self.acr_has(acr::T2_PULSES);
-        let t2_clocks = u32::from(self.t2_counter) + 1;
-        match (t1, t2) {
-            (true, true) => Some(self.t1_due().min(t2_clocks)),
-            (true, false) => Some(self.t1_due()),
-            (false, true) => Some(t2_clocks),
-            (false, false) => None,
-        }
+        let sr = self.ier & flag::SR != 0;
+        let sources = [
+            t1.then(|| self.t1_due()),
+            t2.then(|| u32::from(self.t2_counter) + 1),
+            self.sr_due().filter(|_| sr),
+        ];
+        sources.into_iter().flatten().min()
     }
 
     fn forecast_by_looking(&self) -> Option<u32> {
@@ -510,6 +636,28 @@ fn is_independent(code: u8) -> bool {
 /// CA2 and CB2 codes that this bench leaves out.
 fn is_handshake_or_pulse(code: u8) -> bool {
     code == 4 || code == 5
+}
+
+/// ACR's bits 4..2 as a number.
+fn shift_mode(acr: u8) -> u8 {
+    (acr & acr::SHIFT_MODE) >> 2
+}
+
+/// Shift modes that this bench leaves out.
+fn is_paced_by_t2(mode: u8) -> bool {
+    matches!(mode, 1 | 4 | 5)
+}
+
+fn is_paced_by_clocks(mode: u8) -> bool {
+    mode == shift::IN_BY_CLOCKS || mode == shift::OUT_BY_CLOCKS
+}
+
+fn is_paced_by_cb1(mode: u8) -> bool {
+    mode == shift::IN_BY_CB1 || mode == shift::OUT_BY_CB1
+}
+
+fn shifts_out(mode: u8) -> bool {
+    mode == shift::OUT_BY_CLOCKS || mode == shift::OUT_BY_CB1
 }
 
 /// Whether a control line moved the way its code asks for.

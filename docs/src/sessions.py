@@ -10,9 +10,9 @@ bench that goes one clock at a time stays quick; without it counts go up to
 
 Each chip is a story told in phases: set the chip up for something, then poke
 around the clocks and levels where that something happens. To aim at them a
-story keeps a rough idea of when a timer is due. It's only an aim: were it
-wrong, the sessions would be duller, never invalid. The stories are interleaved
-in bursts, with hostile lines thrown in.
+story keeps a rough idea of when a timer or a shifted byte is due. It's only an
+aim: were it wrong, the sessions would be duller, never invalid. The stories are
+interleaved in bursts, with hostile lines thrown in.
 """
 
 import argparse
@@ -117,27 +117,60 @@ def draw(rng, table):
 class Story22(Story):
     chip = 0x22
     ALLOWED_CODES = (0, 1, 2, 3, 6, 7)
+    # ACR's shift modes: in and out by the clock, in and out by pulses on CB1, and those that are refused.
+    BY_CLOCK = (2, 6)
+    BY_PULSE = (3, 7)
+    REFUSED_MODES = (1, 4, 5)
 
     def __init__(self, rng, max_run):
         super().__init__(rng, max_run)
         self.acr = 0
+        self.shifts = self.half = 0
         self.latch = 0xFFFF
         self.t1_due = 65536
         self.t2_low = 0xFF
         self.t2_due = 65536
         self.pa = self.pb = 255
         self.control = 15
+        self.cb1 = 4
 
     def phases(self):
-        return ((self.t1_phase, 34), (self.t2_phase, 18), (self.pulse_phase, 12),
-                (self.edge_phase, 30), (self.flags_phase, 13), (self.noise_phase, 6))
+        return ((self.t1_phase, 34), (self.t2_phase, 18), (self.pulse_phase, 12), (self.edge_phase, 30),
+                (self.flags_phase, 13), (self.shift_phase, 18), (self.noise_phase, 6))
 
     # Calls that keep the aim up to date.
 
     def set_acr(self, value):
-        if value & 0x1C == 0:
+        if value >> 2 & 7 not in self.REFUSED_MODES:
             self.acr = value
+            self.shifts = self.half = 0
         return self.write(11, value)
+
+    def shift_mode(self):
+        return self.acr >> 2 & 7
+
+    def by_clock(self):
+        return self.shift_mode() in self.BY_CLOCK
+
+    def by_pulse(self):
+        return self.shift_mode() in self.BY_PULSE
+
+    def shift_due(self):
+        """Clocks until the last shift of a byte, if the clock shifts it and any are to come, else 0."""
+        return 2 * self.shifts - self.half if self.by_clock() else 0
+
+    def read(self, address):
+        self.reach(address)
+        return super().read(address)
+
+    def write(self, address, value):
+        self.reach(address)
+        return super().write(address, value)
+
+    def reach(self, register):
+        """In a shift mode an access to SR begins a byte."""
+        if register == 10 and self.shift_mode():
+            self.shifts, self.half = 8, 0
 
     def t1_period(self):
         """One clock for the reload, the latch, one for the passing; in one-shot too."""
@@ -155,7 +188,7 @@ class Story22(Story):
         # T1 goes on from where it stands, which is 65,535 if it had a mark to lose.
         if self.t1_due == self.t1_period():
             self.t1_due = 65536
-        self.acr = 0
+        self.acr = self.shifts = self.half = 0
         return super().reset()
 
     def load_t1(self, value):
@@ -176,6 +209,10 @@ class Story22(Story):
             self.t1_due = self.t1_period() - (clocks - self.t1_due) % self.t1_period()
         if not self.acr & 0x20:
             self.t2_due = (self.t2_due - 1 - clocks) % 65536 + 1
+        if self.by_clock():
+            gone = min(clocks + self.half, 2 * self.shifts)
+            self.shifts -= gone // 2
+            self.half = gone % 2
         return self.run_line(clocks)
 
     def aimed_run(self, due):
@@ -207,14 +244,21 @@ class Story22(Story):
         ))
 
     def pins(self):
+        cb1 = self.control & 4
+        if cb1 > self.cb1 and self.by_pulse():
+            self.shifts = (self.shifts or 8) - 1
+        self.cb1 = cb1
         return self.frame(4, self.pa, self.pb, self.control)
+
+    def any_acr(self, bits=0xE3):
+        """Any of these bits of ACR, and a shift mode in every other one or so."""
+        return self.rng.randrange(256) & bits | self.rng.choice((0, 0, 0, *self.BY_CLOCK, *self.BY_PULSE)) << 2
 
     def refused(self):
         rng = self.rng
         kind = rng.randrange(5)
         if kind == 0:
-            spare = rng.randrange(256) & rng.choice((0xE3, 0xFF))
-            return self.write(11, spare | rng.choice((4, 8, 16)))
+            return self.write(11, rng.randrange(256) & 0xE3 | rng.choice(self.REFUSED_MODES) << 2)
         if kind == 1:
             bad, good = rng.choice((4, 5)), rng.randrange(8)
             low = rng.randrange(2) | rng.randrange(2) << 4
@@ -232,13 +276,15 @@ class Story22(Story):
         return rng.randrange(2) | rng.choice(codes) << 1 | rng.randrange(2) << 4 | rng.choice(codes) << 5
 
     def look(self):
-        """A read that shows much and changes nothing, or a forecast."""
-        return draw(self.rng, (
-            (30, self.forecast()), (25, self.read(13)), (8, self.read(5)),
-            (4, self.read(6)), (4, self.read(7)), (8, self.read(9)), (6, self.read(15)),
-            (2, self.read(11)), (2, self.read(12)), (3, self.read(14)), (2, self.read(10)),
-            (2, self.read(2)), (2, self.read(3)),
-        ))
+        """A read that shows much and changes nothing (SR's does, in a shift mode), or a forecast."""
+        return self.shown(draw(self.rng, (
+            (30, None), (25, 13), (8, 5), (4, 6), (4, 7), (8, 9), (6, 15), (2, 11), (2, 12), (3, 14), (2, 10), (2, 2),
+            (2, 3),
+        )))
+
+    def shown(self, register):
+        """A read of a register, or a forecast for None. (Only the read that is drawn may move the aim.)"""
+        return self.forecast() if register is None else self.read(register)
 
     def enables(self):
         rng = self.rng
@@ -260,7 +306,7 @@ class Story22(Story):
         for register in registers[:rng.choice((4, 16, 16))]:
             yield self.read(register)
         yield self.forecast()
-        kind = rng.randrange(4)
+        kind = rng.randrange(5)
         if kind == 0:
             # What T1 and T2 do when they pass zero without having been loaded.
             yield self.write(14, 0xE0)
@@ -281,13 +327,20 @@ class Story22(Story):
             yield self.write(9, rng.randrange(3))
             yield self.write(5, rng.randrange(3))
             yield from (self.read(register) for register in (4, 5, 6, 7, 8, 9))
+        elif kind == 3:
+            # A shift mode before any access to SR: clocks shift nothing, and a pulse is the first of eight.
+            yield self.set_acr(self.shifting_acr())
+            yield self.write(14, 0x84)
+            yield self.run(16)
+            yield from self.pulses(8)
+            yield from (self.read(register) for register in (13, 10, 13))
 
     def t1_phase(self):
         rng = self.rng
         if self.chance(10):
             yield self.reset()
         if self.chance(90):
-            yield self.set_acr(rng.choice((0x40, 0xC0, 0xC0, 0x00, 0x80, 0x80, rng.randrange(256) & 0xE3)))
+            yield self.set_acr(rng.choice((0x40, 0xC0, 0xC0, 0x00, 0x80, 0x80, self.any_acr())))
         yield from self.enables()
         if self.chance(30):
             yield self.write(2, self.byte())
@@ -375,7 +428,7 @@ class Story22(Story):
         """A few passings on end, most of them in one-shot, and calls between passing and reload."""
         rng = self.rng
         if self.chance(60):
-            yield self.set_acr(self.acr & 0x23 | rng.choice((0x00, 0x80, 0x80, 0xC0, 0xC0)))
+            yield self.set_acr(self.acr & 0x3F | rng.choice((0x00, 0x80, 0x80, 0xC0, 0xC0)))
         if self.chance(50):
             yield from self.load_t1(draw(rng, ((70, rng.randrange(5)), (30, self.count()))))
         elif self.chance(40):
@@ -430,7 +483,7 @@ class Story22(Story):
     def t2_phase(self):
         rng = self.rng
         if self.chance(85):
-            yield self.set_acr(rng.choice((0, 0x40, 0x80, rng.randrange(256) & 0xC3)))
+            yield self.set_acr(rng.choice((0, 0x40, 0x80, self.any_acr(0xC3))))
         yield from self.enables()
         yield from self.load_t2(self.count())
         for _ in range(rng.randrange(5, 30)):
@@ -472,7 +525,7 @@ class Story22(Story):
 
     def pulse_phase(self):
         rng = self.rng
-        yield self.set_acr(0x20 | rng.choice((0, 0x40, 0xC3, rng.randrange(256) & 0xE3)))
+        yield self.set_acr(0x20 | rng.choice((0, 0x40, 0xC3, self.any_acr())))
         yield from self.enables()
         yield from self.load_t2(draw(rng, ((70, rng.randrange(6)), (15, 256), (15, self.count()))))
         if self.chance(40):
@@ -505,7 +558,7 @@ class Story22(Story):
 
     def edge_phase(self):
         rng = self.rng
-        yield self.set_acr(rng.choice((0, 1, 2, 3, 3, 3, 0x83, 0xC3, rng.randrange(256) & 0xE3)))
+        yield self.set_acr(rng.choice((0, 1, 2, 3, 3, 3, 0x83, 0xC3, self.any_acr(), self.any_acr(), self.any_acr(3))))
         yield self.write(12, self.pcr_value())
         yield from self.some_enables() if self.chance(60) else self.enables()
         yield self.write(2, self.byte())
@@ -516,7 +569,7 @@ class Story22(Story):
                 (6, self.edge_read_15), (8, self.edge_ifr), (5, self.edge_port_write),
                 (4, self.edge_ddr), (4, self.edge_pcr), (3, self.edge_acr), (4, self.edge_clear),
                 (3, self.edge_enables), (3, self.t1_look), (3, self.edge_timer), (2, self.t1_refused),
-                (1, self.edge_reset), (1, self.edge_sr),
+                (1, self.edge_reset), (2, self.edge_sr),
             ))()
 
     def edge_pins(self):
@@ -583,7 +636,7 @@ class Story22(Story):
     def flags_phase(self):
         """Some flags set, some of them enabled, and reads that clear a part of them."""
         rng = self.rng
-        yield self.set_acr(rng.choice((0, 0x40, 0x03, 0xC3, rng.randrange(256) & 0xC3)))
+        yield self.set_acr(rng.choice((0, 0x40, 0x03, 0xC3, *(self.any_acr(0xC3) for _ in range(4)))))
         for _ in range(rng.randrange(4, 14)):
             if self.chance(40):
                 yield self.write(12, self.pcr_value((0, 0, 1, 2, 2, 3, 6)))
@@ -603,12 +656,17 @@ class Story22(Story):
         yield self.write(14, 0x80 | self.rng.choice((0x7F, 0, self.rng.randrange(128), self.rng.randrange(128))))
 
     def set_flags(self):
-        """Control lines moved there and back, which every code with edges sees, and timers that pass zero."""
+        """Control lines moved there and back, which every code with edges sees; a byte shifted; timers past zero."""
         rng = self.rng
         moved = rng.choice((0, 1, 2, 2, 4, 8, 8, 3, 12, 15, rng.randrange(16)))
         for _ in range(2 if moved else 0):
             self.control ^= moved
             yield self.pins()
+        if self.by_clock() and self.chance(60):
+            yield self.sr_access()
+            yield self.run(16)
+        elif self.by_pulse() and self.chance(30):
+            yield from self.pulses(self.shifts or 8)
         timers = rng.choice((0, 0, 1, 2, 2, 3))
         if timers & 1:
             yield from self.load_t1(rng.randrange(3))
@@ -620,8 +678,212 @@ class Story22(Story):
     def clearing_read(self):
         """A read of a register that clears flags, for the most part, or of one that is easily taken for such."""
         return self.read(draw(self.rng, (
-            (26, 0), (26, 1), (11, 4), (15, 8), (3, 10), (5, 13), (6, 15), (3, 5), (3, 9), (2, self.rng.randrange(16)),
+            (26, 0), (26, 1), (11, 4), (15, 8), (9, 10), (5, 13), (6, 15), (3, 5), (3, 9), (2, self.rng.randrange(16)),
         )))
+
+    def shift_phase(self):
+        """Bytes that go in or out, by the clock or by CB1, and what may come in the middle of one."""
+        rng = self.rng
+        if self.chance(8):
+            yield self.reset()
+        yield self.set_acr(self.shifting_acr())
+        if self.chance(60):
+            yield self.write(12, self.pcr_value())
+        yield from self.shift_enables()
+        if self.chance(85):
+            yield self.sr_access()
+        for _ in range(rng.randrange(8, 40)):
+            yield from draw(rng, (
+                (36, self.shift_on), (7, self.shift_byte), (8, self.shift_access), (6, self.shift_level),
+                (9, self.shift_switch), (4, self.shift_clear), (9, self.shift_kept), (10, self.shift_look),
+                (5, self.shift_beside), (2, self.shift_reset), (2, self.shift_enables), (2, self.t1_refused),
+                (2, self.edge_pcr),
+            ))()
+
+    def shifting_acr(self, modes=BY_CLOCK + BY_PULSE):
+        rng = self.rng
+        return rng.choice(modes) << 2 | rng.choice((0, 0, 0, 0x03, 0x40, 0xC0, 0x20, rng.randrange(256) & 0xE3))
+
+    def shift_enables(self):
+        """SR's flag alone, more often than not; or with a timer's, or CB1's."""
+        yield self.write(14, 0x7F)
+        if self.chance(95):
+            yield self.write(14, 0x80 | self.rng.choice((0x04, 0x04, 0x04, 0x04, 0x44, 0x24, 0x64, 0x14, 0x7F,
+                                                         self.rng.randrange(128))))
+
+    def sr_access(self):
+        rng = self.rng
+        if self.chance(45):
+            return self.read(10)
+        return self.write(10, rng.choice((rng.randrange(256), rng.randrange(256), self.byte())))
+
+    def pulses(self, count):
+        """CB1 up so often, and down before it; CB2 moves in the same call, in one of its own, or not."""
+        rng = self.rng
+        for _ in range(count):
+            for level in (0, 4) if self.control & 4 else (4,):
+                if self.chance(8):
+                    self.control ^= rng.choice((8, 8, 1, 2, 0))
+                    yield self.pins()
+                if self.chance(3):
+                    # Refused, so it moves nothing.
+                    yield self.frame(4, self.pa, self.pb, rng.choice((16, 32, 128, 240)) | rng.randrange(16))
+                self.control = self.control & 11 | level
+                if self.chance(50):
+                    self.control ^= 8
+                if self.chance(10):
+                    self.pa, self.pb = rng.randrange(256), rng.randrange(256)
+                if self.acr & 0x20:
+                    # T2 counts pulses too, in the same calls.
+                    self.pb ^= 0x40
+                yield self.pins()
+        if self.acr & 0x20 and self.chance(50):
+            yield self.read(8)
+
+    def shift_show(self):
+        """What of a byte can be seen: when the line is due, its flag, and SR, whose read begins the byte anew."""
+        return self.shown(draw(self.rng, ((42, None), (34, 13), (24, 10))))
+
+    def shift_run(self):
+        """A few clocks, odd or even, or about as many as the byte still takes."""
+        rng = self.rng
+        return self.run(draw(rng, (
+            (30, 1), (10, 2), (9, 3), (17, rng.randrange(17)), (4, 0), (5, rng.randrange(300)),
+            (14, self.shift_due() + rng.choice((-1, -1, 0, 0, 0, 1, 2))), (4, self.t1_due), (3, self.t2_due),
+            (4, self.huge()),
+        )))
+
+    def shift_on(self):
+        """A little of what the mode shifts by; now and then of what it doesn't."""
+        if self.shift_mode() == 0 and self.chance(25):
+            yield self.set_acr(self.shifting_acr())
+        if self.by_clock() and not self.shifts and self.chance(50):
+            yield self.sr_access()
+        if self.by_pulse() != self.chance(15):
+            yield from self.pulses(self.rng.choice((1, 1, 1, 2, 3)))
+        else:
+            yield self.shift_run()
+        if self.chance(30):
+            yield self.shift_show()
+
+    def shift_middle(self):
+        """Some shifts of a byte done and some to come, unless it is so already; for the most part."""
+        if self.shifts % 8 or self.chance(25):
+            return
+        if self.by_clock():
+            yield self.sr_access()
+            yield self.run(self.rng.randrange(1, 16))
+        elif self.by_pulse():
+            yield from self.pulses(self.rng.choice((1, 1, 2, 3, 7)))
+
+    def shift_byte(self):
+        """A byte to its end, one shift short of it, or beyond it, with CB2 at one level and another."""
+        rng = self.rng
+        if self.chance(50):
+            yield self.sr_access()
+        if self.by_pulse():
+            yield from self.pulses((self.shifts or 8) + rng.choice((-1, 0, 0, 0, 1, 8, 9)))
+        else:
+            for _ in range(rng.randrange(2, 9)):
+                if self.chance(60):
+                    yield from self.shift_level()
+                yield self.run(rng.choice((1, 1, 2, 2, 2, 3, 4)))
+            yield self.run(self.shift_due() + rng.choice((-1, 0, 0, 1)))
+        if self.chance(60):
+            yield self.read(13)
+        if self.chance(12):
+            # The flag outlives its mode.
+            yield self.set_acr(self.acr & 0xE3)
+            yield self.sr_access()
+        yield self.shift_show()
+
+    def shift_access(self):
+        yield from self.shift_middle()
+        yield self.sr_access()
+        if self.chance(40):
+            yield self.shift_show()
+
+    def shift_level(self):
+        self.control ^= 8
+        yield self.pins()
+
+    def shift_look(self):
+        yield self.shift_show() if self.chance(75) else self.look()
+
+    def shift_switch(self):
+        """ACR written in the middle of a byte: the same again, another mode, none, or one that is refused."""
+        rng = self.rng
+        yield from self.shift_middle()
+        mode = draw(rng, (
+            (22, self.shift_mode()), (44, rng.choice(self.BY_CLOCK + self.BY_PULSE)), (10, 0),
+            (24, rng.choice(self.REFUSED_MODES)),
+        ))
+        yield self.set_acr(self.acr & 0xE3 ^ rng.choice((0, 0, 0, 0x03, 0x20, 0x40, 0x80)) | mode << 2)
+        if self.chance(60):
+            yield self.shift_show()
+        # No access since then, so the clocks of a new mode shift nothing, and its pulses are the first of eight.
+        if self.by_pulse() and self.chance(40):
+            yield from self.pulses(8)
+        elif self.chance(40):
+            yield from self.shift_on()
+        if self.chance(40):
+            yield self.sr_access()
+
+    def shift_clear(self):
+        if self.chance(40):
+            yield from self.shift_middle()
+        yield self.write(13, self.rng.choice((4, 4, 0x84, 0x7F, 0x7B, 0x80, self.byte())))
+        if self.chance(50):
+            yield self.shift_show()
+
+    def shift_kept(self):
+        """Forecasts across runs, mostly with SR's flag alone enabled, from any clock of a byte, odd or even."""
+        if not self.by_clock() and self.chance(50):
+            yield self.set_acr(self.shifting_acr(self.BY_CLOCK))
+        if self.chance(65):
+            yield self.write(14, 0x7B)
+            yield self.write(14, 0x84)
+        if self.chance(75):
+            yield self.sr_access()
+        if self.chance(60):
+            yield self.run(self.rng.randrange(16))
+        yield from self.kept(self.shift_due())
+
+    def shift_beside(self):
+        """A byte and a timer or two, due at the same clock or nearly, all of them enabled."""
+        rng = self.rng
+        if not self.by_clock() and self.chance(80):
+            yield self.set_acr(self.shifting_acr(self.BY_CLOCK))
+        if self.chance(80):
+            yield self.write(14, 0x7F)
+            yield self.write(14, rng.choice((0xC4, 0xA4, 0xE4, 0xE4)))
+        if self.chance(75):
+            yield self.sr_access()
+        if self.chance(30):
+            yield self.run(rng.randrange(9))
+        near = self.shift_due() - 1
+        timers = rng.choice((1, 2, 3, 3))
+        if timers & 1:
+            yield from self.load_t1(max(0, near + rng.choice((-5, -1, 0, 1, 4))))
+        if timers & 2:
+            yield from self.load_t2(max(0, near + rng.choice((-5, -1, 0, 1, 4))))
+        yield from self.kept(self.shift_due())
+        if self.chance(50):
+            yield self.read(13)
+
+    def shift_reset(self):
+        """A byte broken off by a reset: nothing of it may be left for the next mode."""
+        yield from self.shift_middle()
+        yield self.reset()
+        if self.chance(50):
+            yield self.shift_run()
+        yield self.set_acr(self.shifting_acr())
+        yield self.write(14, 0x84)
+        yield self.shift_show()
+        if self.chance(50):
+            yield from self.shift_on()
+        if self.chance(50):
+            yield self.sr_access()
 
     def noise_phase(self):
         rng = self.rng
@@ -630,7 +892,7 @@ class Story22(Story):
             if kind < 0.35:
                 register, value = rng.randrange(16), rng.randrange(256)
                 if register == 11:
-                    yield self.set_acr(value & rng.choice((0xE3, 0xE3, 0xFF)))
+                    yield self.set_acr(rng.choice((value & 0xE3, self.any_acr(), value)))
                 elif register == 5:
                     self.latch = self.latch & 255 | value << 8
                     self.t1_due = self.latch + 1

@@ -7,15 +7,15 @@ tests/stored --make does that, and has the reference write the answers. The
 same bytes come out each time. The session begins with document 01's worked
 one and goes on rule by rule: every kind of frame, every refusal with each of
 its causes, what is easy to get wrong, the twelve marked cases, lines that are
-no frame, each register of each chip, what each read cleared, forecasts across
-runs, the longest runs. After a call that changes something come calls that show
-it, for a bench that gets the rule wrong has to answer one of them differently.
-The last 30,000 lines are made by sessions.py; they reach other states, and make
-the session nine times as long as the program's buffer, so that a program that
-stops reading is found.
+no frame, each register of each chip, serial shifting, what each read cleared,
+forecasts across runs, the longest runs. After a call that changes something
+come calls that show it, for a bench that gets the rule wrong has to answer one
+of them differently. The last 30,000 lines are made by sessions.py; they reach
+other states, and make the session ten times as long as the program's buffer, so
+that a program that stops reading is found.
 
 The longest runs are few: the reference also answers this session one clock at
-a time, and one such run of the 6522 alone takes it some five seconds.
+a time, and one such run of the 6522 alone takes it up to ten seconds.
 """
 
 import sys
@@ -75,10 +75,9 @@ def load_t2(value):
 
 
 def look_via():
-    """Everything that can be seen of the 6522 without touching a flag."""
-    yield from reads(VIA, DDRB, DDRA, T1_HIGH, LATCH_LOW, LATCH_HIGH, T2_HIGH, SR, ACR, PCR, IFR, IER,
-                     PORT_A_QUIET)
-    yield forecast(VIA)
+    """Everything that can be seen of the 6522 without touching a flag or a byte on its way; then SR, whose read does."""
+    yield from reads(VIA, DDRB, DDRA, T1_HIGH, LATCH_LOW, LATCH_HIGH, T2_HIGH, ACR, PCR, IFR, IER, PORT_A_QUIET)
+    yield from (forecast(VIA), read(VIA, SR))
 
 
 def clean_via(acr=0, pcr=0, enables=0x7F):
@@ -89,6 +88,32 @@ def clean_via(acr=0, pcr=0, enables=0x7F):
     yield write(VIA, PCR, pcr)
     yield write(VIA, IFR, 0x7F)
     yield write(VIA, IER, 0x80 | enables)
+
+
+# The shift modes that ACR's bits 4..2 may name: a byte goes in or out, by the clock or by pulses on CB1.
+OFF, IN_CLOCK, IN_PULSE, OUT_CLOCK, OUT_PULSE = 0, 2, 3, 6, 7
+BY_CLOCK, BY_PULSE = (IN_CLOCK, OUT_CLOCK), (IN_PULSE, OUT_PULSE)
+
+
+def shifting(mode, others=0):
+    """ACR written with this shift mode, and its other bits beside it."""
+    return write(VIA, ACR, others | mode << 2)
+
+
+def clean_shift(mode, others=0, pcr=0, enables=0x04):
+    """A clean 6522 in this shift mode, with SR's flag alone enabled unless said otherwise."""
+    return clean_via(others | mode << 2, pcr, enables)
+
+
+def serial(cb1, cb2):
+    """Pins with CB1 and CB2 at these levels, and everything else high."""
+    return pins(VIA, 0xFF, 0xFF, 0x03 | cb1 << 2 | cb2 << 3)
+
+
+def pulses(*levels):
+    """CB1 down and up for each level. CB2 has the level only from the call in which CB1 rises."""
+    for level in levels:
+        yield from (serial(0, 1 - level), serial(1, level))
 
 
 # The 6532's I/O addresses.
@@ -162,8 +187,8 @@ def every_frame():
 
 
 def resets():
-    """What a reset takes away and what it leaves, with as much as possible set before it."""
-    yield from clean_via(acr=0xC3, pcr=0xFF)
+    """What a reset takes away and what it leaves, with as much as possible set before it: SR is in the middle of a byte."""
+    yield from clean_via(acr=0xC3 | OUT_CLOCK << 2, pcr=0xFF)
     yield from (write(VIA, SR, 0x5A), *load_t1(5), *load_t2(9), run(VIA, 6), pins(VIA, 0x3C, 0xC3, 0))
     for port, direction in ((PORT_A, DDRA), (PORT_B, DDRB)):
         yield from (write(VIA, port, 0xFF), write(VIA, direction, 0xFF))
@@ -208,7 +233,7 @@ def no_such_register():
 
 
 def forms_left_out():
-    """Refusal 4: ACR's shift modes, PCR's codes 4 and 5, R8's other bits; the old value stays."""
+    """Refusal 4: ACR's shift modes 1, 4 and 5, PCR's codes 4 and 5, R8's other bits; the old value stays."""
     yield from clean_via()
     for shift in range(8):
         for others in (0x00, 0xE3):
@@ -350,7 +375,8 @@ def via_registers():
         yield from clean_via(enables=0)
         yield pins(VIA, 0x3C, 0xC3, 0x0F)
         for register in range(16):
-            kept = value & (0xE3 if register == ACR else 0x33 if register == PCR else 0xFF)
+            # ACR's shift mode 5, and PCR's codes 4 and 5, would be refused.
+            kept = value & (0xE3 if register == ACR and value == 0x55 else 0x33 if register == PCR else 0xFF)
             yield from (write(VIA, register, kept), read(VIA, register))
         yield from look_via()
         if number % 2:
@@ -418,7 +444,7 @@ def via_timers():
     yield from clean_via(acr=0x80)
     for call in (*(read(VIA, register) for register in range(16)),
                  *(write(VIA, register, 3) for register in range(16) if register != T1_HIGH),
-                 write(VIA, ACR, 0x44), pins(VIA, 0, 0, 0), run(VIA, 0), forecast(VIA)):
+                 write(VIA, ACR, 0x44), write(VIA, ACR, 0x98), pins(VIA, 0, 0, 0), run(VIA, 0), forecast(VIA)):
         yield from (*load_t1(0x102), run(VIA, 0x103), call, *reads(VIA, T1_HIGH, T1_LOW), run(VIA, 1),
                     *reads(VIA, T1_HIGH, T1_LOW))
     # One-shot: disarmed after its passing, armed by a load alone; free-run needs no arming.
@@ -452,12 +478,192 @@ def via_timers():
             yield from (*load_t1(first), *load_t2(second), forecast(VIA), run(VIA, 4), forecast(VIA), run(VIA, 3),
                         forecast(VIA), run(VIA, 5), forecast(VIA), *reads(VIA, IFR, T1_LOW, T2_LOW))
     for register in (IFR, IER):
-        yield from clean_via(enables=0)
-        yield from (*load_t1(0), *load_t2(0), pins(VIA, 0, 0, 0), run(VIA, 1), read(VIA, IFR))
-        for bit in range(8):
+        yield from clean_shift(IN_CLOCK, enables=0)
+        yield from (*load_t1(0), *load_t2(0), pins(VIA, 0, 0, 0), write(VIA, SR, 0), run(VIA, 16), read(VIA, IFR))
+        for bit in (7, *range(7)):
             yield from (write(VIA, register, 1 << bit | (0x80 if register == IER else 0)), *reads(VIA, IFR, IER))
         for bit in range(7):
             yield from (write(VIA, IER, 1 << bit), *reads(VIA, IFR, IER))
+
+
+# -------------------------------------------------- the 6522's shift register
+
+def via_shift_modes():
+    """Every value of ACR's bits 4..2, with the others clear and set: what shifts a byte, and which way it goes."""
+    for others in (0x00, 0xE3):
+        for mode in range(8):
+            yield from (*clean_via(acr=others, enables=0x04), shifting(mode, others), read(VIA, ACR), write(VIA, SR, 0x4C),
+                        forecast(VIA), run(VIA, 3), forecast(VIA), *pulses(0, 0, 1), read(VIA, IFR), forecast(VIA),
+                        *reads(VIA, SR, SR), forecast(VIA))
+
+
+def via_shift_clocks():
+    """Modes 2 and 6: of two clocks the second shifts, and the sixteenth after an access sets the flag."""
+    for mode in BY_CLOCK:
+        # After each clock the line, the flag and the forecast; nothing goes on after the last shift.
+        yield from (*clean_shift(mode), write(VIA, SR, 0xB4), forecast(VIA))
+        yield from clocks(VIA, 19, read(VIA, IFR), forecast(VIA))
+        yield from reads(VIA, SR, IFR)
+        # SR after some single clocks, and after a run of any length up to 40, with CB2 at one level and the other.
+        for count in (1, 2, 3, 4, 5, 14, 15, 16, 17):
+            yield from (serial(1, count % 2), write(VIA, SR, 0x72), *clocks(VIA, count), read(VIA, SR))
+        for count in range(41):
+            yield from (serial(1, count // 2 % 2), write(VIA, SR, 0xC5), run(VIA, count), forecast(VIA), *reads(VIA, IFR, SR))
+        # Runs in two parts: the second begins at any clock of a byte.
+        for first in range(17):
+            yield from (write(VIA, SR, 0x35), run(VIA, first), serial(1, first % 2), run(VIA, 15 - first % 8), forecast(VIA),
+                        read(VIA, SR))
+        # Bit by bit: CB2 has its level only for the clock that shifts. On the way out its level makes no difference.
+        for byte in (0xB2, 0x4D):
+            yield write(VIA, SR, 0xA3)
+            for place in reversed(range(8)):
+                level = byte >> place & 1
+                yield from (serial(1, 1 - level), run(VIA, 1), serial(1, level), run(VIA, 1))
+            yield from reads(VIA, IFR, SR)
+        # Long runs, from an even clock and from an odd one.
+        for count, before in ((254, 0), (255, 3), (256, 0), (257, 5), (65_535, 0), (65_536, 0), (65_536, 3), (65_537, 1),
+                              (0x20001, 0), (1 << 24, 0), (1 << 24, 3)):
+            yield from (write(VIA, SR, 0x8E), run(VIA, before), run(VIA, count), forecast(VIA), *reads(VIA, IFR, SR))
+
+
+# Every move of CB1 and CB2 from two levels to two others, or the same: CB1 in bit 0, CB2 in bit 1.
+SERIAL_MOVES = (0, 0, 1, 0, 2, 0, 3, 1, 1, 2, 1, 3, 2, 2, 3, 3, 0)
+
+
+def via_shift_pulses():
+    """Modes 3 and 7: each rising CB1 shifts, and no clock does; the eighth sets the flag."""
+    # In every mode each move of the two lines, with what it flags and what it does to SR.
+    for mode, pcr in ((IN_PULSE, 0x00), (IN_PULSE, 0x50), (OUT_PULSE, 0x10), (OUT_PULSE, 0x40), (OFF, 0x10),
+                      (IN_CLOCK, 0x50), (OUT_CLOCK, 0x10)):
+        yield from (*clean_shift(mode, pcr=pcr), serial(0, 0), write(VIA, IFR, 0x7F), write(VIA, SR, 0xB1))
+        for levels in SERIAL_MOVES:
+            yield from (serial(levels & 1, levels >> 1), *reads(VIA, IFR, SR), write(VIA, IFR, 0x7F))
+    for mode in BY_PULSE:
+        # SR after some pulses.
+        yield from clean_shift(mode)
+        for count in (1, 2, 3, 5, 8, 9):
+            yield from (write(VIA, SR, 0x72), *pulses(*(1, 0, 1, 1, 0, 0, 1, 0, 1)[:count]), *reads(VIA, IFR, SR))
+        # No access before the first pulse, nor after a byte: with none to come the next pulse is the first of eight. The
+        # flag comes again once it was cleared, and the read at the end shows how often SR shifted.
+        yield from (write(VIA, SR, 0x2D), *clean_shift(mode))
+        for count in range(1, 26):
+            yield from (*pulses(count % 3 % 2), read(VIA, IFR))
+            if count == 10:
+                yield write(VIA, IFR, 0x04)
+        yield from reads(VIA, SR, IFR)
+        # Clocks do nothing, between two pulses either, and nothing is forecast.
+        yield from (*clean_shift(mode), write(VIA, SR, 0x59), forecast(VIA), run(VIA, 16), *pulses(1, 0, 0))
+        for count in (0, 1, 2, 10, 17, 70_000):
+            yield from (run(VIA, count), forecast(VIA), read(VIA, IFR))
+        yield from (*pulses(0, 1, 1, 0), read(VIA, IFR), *pulses(1), forecast(VIA), *reads(VIA, IFR, SR))
+        # A refused pins call is no pulse, and the rise is still to come.
+        yield from (*clean_shift(mode), serial(0, 1), write(VIA, SR, 0x4B))
+        for control in (0x14, 0x1F, 0x84, 0xFF):
+            yield from (pins(VIA, 0xFF, 0xFF, control), read(VIA, SR))
+        yield from (serial(1, 0), read(VIA, SR))
+        # What rises is judged by the pins call before, in whichever mode that came. A reset, or a mode, makes no pulse.
+        yield from (shifting(OFF), serial(0, 0), shifting(mode), read(VIA, SR), serial(1, 1), read(VIA, SR))
+        yield from (serial(0, 0), shifting(OFF), serial(1, 1), shifting(mode), serial(1, 0), read(VIA, SR))
+        yield from (serial(0, 1), reset(VIA), shifting(mode), read(VIA, SR), serial(1, 1), read(VIA, SR))
+        # PB6 falls, for T2, in the call in which CB1 rises. The eighth such call sets both flags.
+        yield from (*clean_shift(mode, others=0x20, enables=0x24), *load_t2(7), write(VIA, SR, 0x1A))
+        for _ in range(8):
+            yield from (pins(VIA, 0xFF, 0xFF, 0x03), pins(VIA, 0xFF, 0xBF, 0x0F), read(VIA, IFR))
+        yield from reads(VIA, T2_LOW, SR, IFR)
+    # Port B's lines are kept at CB1's edge in these modes too, at one that shifts and at one that doesn't.
+    for mode in (*BY_CLOCK, *BY_PULSE):
+        for pcr in (0x00, 0x10):
+            yield from (*clean_shift(mode, others=0x02, pcr=pcr), pins(VIA, 0xFF, 0x5A, 0x0B), pins(VIA, 0xFF, 0xC3, 0x0F),
+                        pins(VIA, 0xFF, 0x96, 0x0F), *reads(VIA, IFR, PORT_B, IFR, PORT_B))
+
+
+def via_shift_inputs():
+    """Input takes CB2's outside level, whatever PCR makes of CB2 and of CB1's edges."""
+    for code, edge in ((0, 1), (1, 0), (2, 0), (3, 1), (6, 0), (7, 1)):
+        yield from clean_shift(IN_CLOCK, pcr=code << 5 | edge << 4)
+        for level, value in ((1, 0x00), (0, 0xFF)):
+            yield from (serial(1, level), write(VIA, SR, value), run(VIA, 6), *reads(VIA, SR, IFR))
+        yield from (shifting(IN_PULSE), write(VIA, SR, 0x4A), *pulses(1, 0, 0, 1), *reads(VIA, SR, IFR))
+    # A refused pins call stores no level.
+    yield from (*clean_shift(IN_CLOCK), write(VIA, SR, 0), run(VIA, 2), pins(VIA, 0xFF, 0xFF, 0x17), run(VIA, 2), read(VIA, SR))
+
+
+def via_shift_accesses():
+    """In the four modes a read or a write of SR begins the byte anew, wherever it stands, and clears the flag."""
+    for access, counts in ((read(VIA, SR), (3, 9)), (write(VIA, SR, 0x3A), (9, 3))):
+        for mode in BY_CLOCK:
+            yield from (*clean_shift(mode), write(VIA, SR, 0x5B), access)
+            for count in (1, 2, 7, 8, 15, 16, 17):
+                yield from (serial(1, count % 2), run(VIA, count), access, forecast(VIA), read(VIA, IFR), run(VIA, 15),
+                            forecast(VIA), run(VIA, 1), *reads(VIA, IFR, SR))
+            # With one clock before each access nothing is ever shifted.
+            yield write(VIA, SR, 0x6B)
+            for _ in range(4):
+                yield from (run(VIA, 1), read(VIA, SR), forecast(VIA))
+        for mode, count in zip(BY_PULSE, counts):
+            yield from (*clean_shift(mode), access, *pulses(*[0] * count), access, read(VIA, IFR), *pulses(*[1] * 7),
+                        read(VIA, IFR), *pulses(0), *reads(VIA, IFR, SR, SR))
+        # With no mode on it clears the flag and does nothing else: clocks and pulses leave SR as it is.
+        yield from (*clean_shift(OUT_CLOCK), write(VIA, SR, 0x1D), run(VIA, 16), shifting(OFF), read(VIA, IFR), access,
+                    read(VIA, IFR), forecast(VIA), run(VIA, 40), *pulses(*[1] * 9), *reads(VIA, IFR, SR))
+    # No other call touches the byte. Three clocks of it are over, so the forecast is 13, and it ends then.
+    yield from clean_shift(OUT_CLOCK)
+    others = [*(read(VIA, register) for register in range(16) if register != SR),
+              *(write(VIA, register, 3) for register in range(16) if register not in (SR, ACR)),
+              *(write(VIA, ACR, mode << 2) for mode in (1, 4, 5)), write(VIA, IFR, 0x7F), write(VIA, IER, 0xFB),
+              write(VIA, IER, 0x7B), run(VIA, 0), forecast(VIA), read(VIA, 16), write(VIA, 0x1A, 0)]
+    levels = [pins(VIA, 0, 0, 0), pins(VIA, 0, 0, 0x10), pins(VIA, 0xFF, 0xFF, 0x0F)]
+    for call in (*others, *levels):
+        yield from (write(VIA, SR, 0x97), run(VIA, 3), call, write(VIA, IFR, 0x7B), forecast(VIA), run(VIA, 13), read(VIA, SR))
+    # The same for a byte by pulses: all of them after its sixth. The levels end in the seventh.
+    for mode in BY_PULSE:
+        yield from (*clean_shift(mode), write(VIA, SR, 0x97), *pulses(1, 0, 1, 1, 0, 1), *others, *levels, read(VIA, IFR),
+                    *pulses(0), *reads(VIA, IFR, SR))
+
+
+def all_but_two(mode):
+    """Six shifts of a byte, and one clock of the seventh where it goes by the clock."""
+    return [run(VIA, 13)] if mode in BY_CLOCK else [*pulses(0, 1, 1, 0, 0, 1)]
+
+
+def via_shift_switched():
+    """ACR written in the middle of a byte: every accepted write drops what was to come, a refused one leaves it."""
+    for old in (*BY_CLOCK, *BY_PULSE):
+        # Where it was dropped, neither four clocks nor two pulses end the byte.
+        yield from clean_shift(old)
+        for new, others in (*((mode, 0) for mode in range(8)), (old, 0x40), (old, 0x23)):
+            yield from (shifting(old), write(VIA, SR, 0x96), *all_but_two(old), shifting(new, others), forecast(VIA),
+                        run(VIA, 4), read(VIA, IFR), *pulses(1, 0), *reads(VIA, IFR, ACR, SR))
+        # The flag stays, and SR does.
+        yield from (shifting(old), write(VIA, SR, 0xD2), *all_but_two(old), run(VIA, 3), *pulses(1, 0))
+        for new in (0, 1, 2, 3, 4, 5, 6, 7, 7, 0):
+            yield from (shifting(new), read(VIA, IFR))
+        yield from reads(VIA, SR, IFR)
+    # A mode in which nothing was accessed yet, and one left in the middle of a byte and taken up again: no clock shifts.
+    for mode in BY_CLOCK:
+        yield from (*clean_shift(mode), run(VIA, 40), write(VIA, SR, 0x1F), run(VIA, 5), shifting(OFF), forecast(VIA),
+                    run(VIA, 11), read(VIA, IFR), shifting(mode), forecast(VIA), run(VIA, 40), *reads(VIA, IFR, SR),
+                    forecast(VIA))
+    # A reset takes the mode, the flag and its enable, and leaves SR; nothing of the byte is left for the next mode.
+    for mode, rest in zip((IN_CLOCK, IN_PULSE, OUT_PULSE, OUT_CLOCK), ([], [], [*pulses(1, 1)], [run(VIA, 3)])):
+        yield from (*clean_shift(mode), write(VIA, SR, 0x6E), *all_but_two(mode), *rest, read(VIA, IFR), reset(VIA),
+                    *reads(VIA, ACR, IFR, IER), run(VIA, 4), *pulses(0, 0), shifting(mode), write(VIA, IER, 0x84),
+                    forecast(VIA), run(VIA, 4), *pulses(0, 1), *reads(VIA, IFR, SR, SR))
+
+
+def via_shift_forecasts():
+    """The forecast counts SR's flag in modes 2 and 6, while it is enabled and shifts are to come: the soonest of three."""
+    for enables in (0x04, 0x44, 0x24, 0x64, 0x60):
+        for mode, first, second in ((IN_CLOCK, 8, 20), (OUT_CLOCK, 20, 8), (IN_CLOCK, 20, 20), (OUT_CLOCK, 10, 10),
+                                    (IN_CLOCK, 12, 9)):
+            yield from (*clean_shift(mode, enables=enables), write(VIA, SR, 0), run(VIA, 5), *load_t1(first), *load_t2(second),
+                        forecast(VIA), run(VIA, 7), forecast(VIA), run(VIA, 4), forecast(VIA), *reads(VIA, IFR, SR),
+                        forecast(VIA))
+    # Beside T1 in free-run and a T2 that waits for pulses; turned off, and on again when the flag is set.
+    yield from (*clean_shift(OUT_CLOCK, others=0x60, enables=0x64), *load_t1(30), *load_t2(1), write(VIA, SR, 0x5C),
+                forecast(VIA), run(VIA, 9), forecast(VIA), write(VIA, IER, 0x04), forecast(VIA), run(VIA, 7), forecast(VIA),
+                read(VIA, IFR), write(VIA, IER, 0x84), forecast(VIA), write(VIA, IFR, 0x04), forecast(VIA), run(VIA, 20),
+                *reads(VIA, IFR, SR))
 
 
 def flags_of(mask):
@@ -470,22 +676,27 @@ def control_falls():
     return [pins(VIA, 0xFF, 0xFF, 0x0F), pins(VIA, 0xFF, 0xFF, 0x00)]
 
 
+def all_flags():
+    """All seven flags set, in shift mode 6."""
+    return [*control_falls(), *load_t1(0), *load_t2(0), write(VIA, SR, 0x69), run(VIA, 16)]
+
+
 def via_cleared():
-    """What a read cleared, for each set of the flags that a session can set (all but SR's)."""
-    yield from clean_via(enables=0x5A)
-    for flags in flags_of(0x7B):
-        yield from (*control_falls(), *load_t1(0), *load_t2(0), run(VIA, 1), write(VIA, IFR, 0x7F ^ flags))
+    """What a read cleared, for each set of the seven flags."""
+    yield from clean_shift(OUT_CLOCK, enables=0x5A)
+    for flags in flags_of(0x7F):
+        yield from (*all_flags(), write(VIA, IFR, 0x7F ^ flags))
         yield from reads(VIA, T2_LOW, PORT_A, SR, IFR, T1_LOW, PORT_B, IFR)
     # CA2 alone independent, then CB2 alone. The second read of a port finds nothing more.
     for pcr in (0x02, 0x60):
         for flags in flags_of(0x1B):
             yield from (write(VIA, PCR, 0), *control_falls(), write(VIA, IFR, 0x7F ^ flags), write(VIA, PCR, pcr))
             yield from reads(VIA, PORT_A, PORT_A, PORT_B, PORT_B, IFR)
-    # Reads that clear nothing, refused ones among them, with six flags set, none of them enabled or all.
-    for enables in (0x00, 0x7F):
-        yield from clean_via(enables=enables)
-        yield from (*load_t1(0), *load_t2(0), run(VIA, 1), *control_falls())
-        for register in (DDRB, DDRA, T1_HIGH, LATCH_LOW, LATCH_HIGH, T2_HIGH, SR, ACR, PCR, IER, PORT_A_QUIET, 16, 255):
+    # Reads that clear nothing, refused ones among them, with all flags set, none of them enabled or all. Then SR's read,
+    # which clears its flag once, in a shift mode or in none.
+    for enables, mode in ((0x00, OUT_CLOCK), (0x7F, OFF)):
+        yield from (*clean_shift(OUT_CLOCK, enables=enables), *all_flags(), shifting(mode))
+        for register in (DDRB, DDRA, T1_HIGH, LATCH_LOW, LATCH_HIGH, T2_HIGH, ACR, PCR, IER, PORT_A_QUIET, 16, 255, SR, SR):
             yield from reads(VIA, register, IFR)
 
 
@@ -652,6 +863,12 @@ def forecasts_kept():
         yield from (*load_t1(2), *load_t2(2), run(VIA, 3), write(VIA, IFR, 0x7F), *parts(VIA, 0, 1, 4, 65_537, 1_000_003))
     yield from clean_via(enables=0x60)
     yield from (*load_t1(900), *load_t2(300), *parts(VIA, 100, 200, 1), read(VIA, T2_LOW), *parts(VIA, 598, 1, 1, 1))
+    # A byte by the clock, then nothing to come, and a byte that waits for CB1.
+    for number, first in enumerate((0, 1, 2, 7, 15, 16, 17)):
+        yield from (*clean_shift(BY_CLOCK[number % 2]), write(VIA, SR, 0x35), *parts(VIA, first, 1, 4, 9, 1, 70_000),
+                    write(VIA, IFR, 0x04), *parts(VIA, 1, 16, 65_537))
+    for mode in BY_PULSE:
+        yield from (*clean_shift(mode), write(VIA, SR, 0x35), *pulses(1, 0), *parts(VIA, 0, 1, 12, 65_537))
     for divider, size in enumerate((1, 8, 64, 1024)):
         due = 1 + 255 * size
         for enabled in (True, False):
@@ -662,10 +879,12 @@ def forecasts_kept():
 
 
 def longest_runs():
-    """T1 in both modes, T2, and a 6532 timer, each over 4,294,967,295 clocks; the 6545 has its own limit."""
-    for acr in (0x80, 0xC0):
-        yield from clean_via(acr=acr)
-        yield from (*load_t1(0x5BA7), *load_t2(0x2211), run(VIA, LONGEST),
+    """T1 in both modes, T2, a byte in and one out, and a 6532 timer, each over 4,294,967,295 clocks; the 6545 has its own
+    limit."""
+    # The byte that goes out is at an odd clock, so that the run and the clock before it are more than any number of clocks.
+    for acr, mode, before in ((0x80, IN_CLOCK, 0), (0xC0, OUT_CLOCK, 3)):
+        yield from (*clean_shift(mode, others=acr, enables=0x7F), serial(1, 0), write(VIA, IFR, 0x7F), write(VIA, SR, 0xE4),
+                    run(VIA, before), *load_t1(0x5BA7), *load_t2(0x2211), run(VIA, LONGEST),
                     *reads(VIA, PORT_B, T1_HIGH, T2_HIGH, IFR, T1_LOW, T2_LOW), *look_via())
     yield from (load_timer(3, 200, True), run(RIOT, LONGEST), forecast(RIOT), read(RIOT, FLAGS), read(RIOT, TIMER))
     yield from (run(CRTC, 0xFFFF), read(CRTC, 0), run(CRTC, 0x10000), run(CRTC, LONGEST), read(CRTC, 0))
@@ -690,8 +909,10 @@ def generated():
 SECTIONS = (
     worked_session, as_they_come, every_frame, resets, no_frames, no_such_register, forms_left_out, levels_too_high,
     runs_too_long, easy_to_get_wrong, marked_cases, hostile_lines, via_registers, via_lines, via_edges,
-    via_port_flags, via_timers, via_cleared, riot_memory, riot_addresses, riot_timer, riot_pa7, riot_cleared,
-    crtc_registers, crtc_screens, crtc_cursor, crtc_lowered, crtc_pen, forecasts_kept, longest_runs, generated,
+    via_port_flags, via_timers, via_shift_modes, via_shift_clocks, via_shift_pulses, via_shift_inputs,
+    via_shift_accesses, via_shift_switched, via_shift_forecasts, via_cleared, riot_memory, riot_addresses, riot_timer,
+    riot_pa7, riot_cleared, crtc_registers, crtc_screens, crtc_cursor, crtc_lowered, crtc_pen, forecasts_kept,
+    longest_runs, generated,
 )
 
 

@@ -187,7 +187,7 @@ module _ (C : Chip) (S : Lawful C) (T : Clocked C) (K : Ticks C T) where
       run-calls (C .well) (T .rule) (next C (T .run 1))
       clock-well-leaves
       (λ u w. ill-leaves C S (T .run 1) u w)
-      runs-well n v (next C (T .run n) v)
+      (K .keeps) n v (next C (T .run n) v)
       (λ w. run-well-leaves n v h w)
       (λ w. ill-leaves C S (T .run n) v w)
 

@@ -6,8 +6,8 @@ use native.Mathlib.Nat.{pow-suc, pow-succ', div-one, div-div-eq-div-mul, div-eq-
 use native.Mathlib.Decide.{ℕ-discrete}
 use native.Mathlib.Omega.{arith}
 use lib.Dec.{eqb, lit<, eqb·suc-zero, eqb·zero-suc, eqb·suc-suc}
-use lib.Pow.{pow-mono}
-use lib.Bits.{bitAnd, bitOr, and-step, and-le-l, and-shr, or-shr, and-mod, or-mod}
+use lib.Pow.{pow-mono, pow-pos, field, mod-mod-pow}
+use lib.Bits.{bitAnd, bitOr, and-step, and-le-l, and-shr, or-shr, and-mod, or-mod, or-lt}
 use borrow.Author.Tests.{eq-eqb, ne-eqb, eqb-true}
 use mathlib.Core.Logic.{_⊎_, inl, inr}
 use Rattle.clocks.proofs.Tests.{both, either, neither}
@@ -35,6 +35,14 @@ bit-suc k x = ap (λ (y : ℕ). eqb (y % 2) 1) (ap (λ (p : ℕ). x / p) (pow-su
 pub bit-high : (n k x : ℕ) → x < 2 ^ n → n ≤ k → bit k x ≡ false
 unfolding bit
 bit-high n k x h l = let g : x < 2 ^ k = omega (arith, pow-mono l) in rw (div-eq-of-lt g)
+
+-- the low n bits are those of the remainder
+pub bit-mod : (n k x : ℕ) → k < n → bit k (x % 2 ^ n) ≡ bit k x
+unfolding bit
+bit-mod n k x h =
+    let e : n ≡ n - k - 1 + 1 + k = omega arith in
+    ap (λ (y : ℕ). eqb (y % 2) 1) (ap (λ (m : ℕ). x % 2 ^ m / 2 ^ k) e ∙ field x (n - k - 1 + 1) k)
+    ∙ ap (λ (y : ℕ). eqb y 1) (mod-mod-pow (x / 2 ^ k) (n - k - 1) 1)
 
 -- 0 has none at all
 pub bit-none : (k : ℕ) → bit k 0 ≡ false
@@ -195,12 +203,47 @@ bit-with k false j x =
     go true = and-false (bit j x)
     go false = and-true (bit j x)
 
--- a bit put back where it was read, and one put over another
+pub bit-here : (k : ℕ) (b : Bool) (x : ℕ) → bit k (withBit k b x) ≡ b
+bit-here k b x = bit-with k b k x ∙ rw (eq-eqb k k refl)
+
+pub bit-other : (k : ℕ) (b : Bool) (j x : ℕ) → (j ≡ k → ⊥) → bit j (withBit k b x) ≡ bit j x
+bit-other k b j x e = bit-with k b j x ∙ rw (ne-eqb j k e)
+
+-- a bit below n leaves a number below 2 ^ n there
+pub with-lt : (n k : ℕ) (b : Bool) (x : ℕ) → k < n → x < 2 ^ n → withBit k b x < 2 ^ n
+unfolding withBit withSet withClear
+with-lt n k true x h l = or-lt n x (2 ^ k) l (omega (arith, pow-mono {i = suc k} {j = n} h, pow-suc 2 k, pow-pos k))
+with-lt n k false x h l = omega arith
+
+-- a bit put back where it was read
 pub with-same : (k x : ℕ) → withBit k (bit k x) x ≡ x
 with-same k x = all-bits _ _ (λ j. bit-with k (bit k x) j x ∙ go j (ℕ-discrete j k))
   where
     go : (j : ℕ) → Dec (j ≡ k) → (if eqb j k then bit k x else bit j x) ≡ bit j x
     go j (yes e) = rw (eq-eqb j k e, e)
+    go j (no e) = rw (ne-eqb j k e)
+
+-- of two bits put in one place the last counts, and of two put in two places either may be the last
+pub with-over : (k : ℕ) (a b : Bool) (x : ℕ) → withBit k a (withBit k b x) ≡ withBit k a x
+with-over k a b x =
+    all-bits _ _ (λ j. bit-with k a j (withBit k b x) ∙ go j (ℕ-discrete j k) ∙ sym (bit-with k a j x))
+  where
+    go : (j : ℕ) → Dec (j ≡ k) → (if eqb j k then a else bit j (withBit k b x)) ≡ (if eqb j k then a else bit j x)
+    go j (yes e) = rw (eq-eqb j k e)
+    go j (no e) = rw (ne-eqb j k e) (bit-other k b j x e)
+
+pub with-swap :
+    (k l : ℕ) (a b : Bool) (x : ℕ) → (k ≡ l → ⊥) → withBit k a (withBit l b x) ≡ withBit l b (withBit k a x)
+with-swap k l a b x n =
+    all-bits _ _ (λ j. two k l a b j ∙ go j (ℕ-discrete j k) ∙ sym (two l k b a j))
+  where
+    two : (k l : ℕ) (a b : Bool) (j : ℕ) → bit j (withBit k a (withBit l b x)) ≡ (if eqb j k then a else if eqb j l then b else bit j x)
+    two k l a b j = bit-with k a j (withBit l b x) ∙ ap (λ (q : Bool). if eqb j k then a else q) (bit-with l b j x)
+
+    go :
+        (j : ℕ) → Dec (j ≡ k)
+        → (if eqb j k then a else if eqb j l then b else bit j x) ≡ (if eqb j l then b else if eqb j k then a else bit j x)
+    go j (yes e) = rw (eq-eqb j k e, ne-eqb j l (λ q. n (sym e ∙ q)))
     go j (no e) = rw (ne-eqb j k e)
 
 -- nothing is shared exactly where the two have no bit in common
@@ -209,12 +252,12 @@ unfolding shares
 shares-none zero x y h = refl
 shares-none (suc n) x y h = rw (h n (omega arith)) (shares-none n x y (λ k l. h k (omega arith)))
 
--- what is shared goes by the bits alone
-pub shares-same : (n x x′ y : ℕ) → ((k : ℕ) → k < n → bit k x ≡ bit k x′) → shares n x y ≡ shares n x′ y
+-- what is shared goes by the bits that y has
+pub shares-same :
+    (n x x′ y : ℕ) → ((k : ℕ) → k < n → (bit k x && bit k y) ≡ (bit k x′ && bit k y)) → shares n x y ≡ shares n x′ y
 unfolding shares
 shares-same zero x x′ y h = refl
-shares-same (suc n) x x′ y h =
-    ap₂ (λ (p q : Bool). p && bit n y || q) (h n (omega arith)) (shares-same n x x′ y (λ k l. h k (omega arith)))
+shares-same (suc n) x x′ y h = ap₂ _||_ (h n (omega arith)) (shares-same n x x′ y (λ k l. h k (omega arith)))
 
 shares-some : (n x y : ℕ) → shares n x y ≡ false → (k : ℕ) → k < n → (bit k x && bit k y) ≡ false
 unfolding shares
@@ -272,3 +315,19 @@ shares-by (suc n) x y k l p q = go (λ h. shares-by n x y k h p q) (ℕ-discrete
         let b : bit n y ≡ true = rw e at q in
         rw (a, b)
     go below (no e) = rw (below (omega arith)) (or-true (bit n x && bit n y))
+
+-- a bit of x by itself: it is shared where y has it, and else the others decide
+pub shares-with :
+    (n k : ℕ) (b : Bool) (x y : ℕ) → k < n → shares n (withBit k b x) y ≡ (b && bit k y || shares n (withBit k false x) y)
+shares-with n k false x y l = refl
+shares-with n k true x y l = go (bit k y) refl
+  where
+    same : bit k y ≡ false → (j : ℕ) → Dec (j ≡ k) → (bit j (withBit k true x) && bit j y) ≡ (bit j (withBit k false x) && bit j y)
+    same none j (yes e) =
+        rw (e, none) (and-false (bit k (withBit k true x)) ∙ sym (and-false (bit k (withBit k false x))))
+    same none j (no e) =
+        ap (λ (b : Bool). b && bit j y) (bit-other k true j x e ∙ sym (bit-other k false j x e))
+
+    go : (b : Bool) → bit k y ≡ b → shares n (withBit k true x) y ≡ (b || shares n (withBit k false x) y)
+    go true e = shares-by n (withBit k true x) y k l (bit-here k true x) e
+    go false e = shares-same n (withBit k true x) (withBit k false x) y (λ j h. same e j (ℕ-discrete j k))

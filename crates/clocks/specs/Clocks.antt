@@ -13,6 +13,11 @@ unfoldable pub after : {A : Type 0} → ℕ → (A → A) → A → A
 after zero f x = x
 after (suc n) f x = f (after n f x)
 
+-- n turns, each by a rule of its own: the first is that of f 0
+unfoldable pub inTurn : {A : Type 0} → ℕ → (ℕ → A → A) → A → A
+inTurn zero f x = x
+inTurn (suc n) f x = f n (inTurn n f x)
+
 -- one less than c; after 0 the highest of the w numbers
 abbrev pub lower : ℕ → ℕ → ℕ
 lower w c = if eqb c 0 then w - 1 else c - 1

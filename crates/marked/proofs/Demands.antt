@@ -7,6 +7,7 @@ use Rattle.clocks.specs.Ranges.{within}
 use Rattle.chips.specs.Chips.{answer}
 use Rattle.timers.specs.First as First
 use Rattle.timers.specs.Second as Second
+use Rattle.shifter.specs.Shifter as Shift
 use Rattle.interval.specs.Timer as Timer
 use Rattle.flags.specs.Flags as Flags
 use Rattle.raster.specs.Record as Raster
@@ -51,10 +52,10 @@ passes-holds (on-6545 calls o) e =
 all-pass : every passes table ≡ true
 unfolding
     table every passes leads flags1 along after bit withBit withSet withClear shares answer
-    First.clocked Second.clocked Second.counted
+    First.clocked Second.clocked Second.counted Shift.clocked
     Flags.accessClears Flags.readClears Flags.writeClears Flags.enabled
     Access22.readAsks Access22.readOf Access22.writeAsks Access22.stored Access22.writeOf
-    Clock22.timersOf Clock22.withTimers Clock22.clockOf Closed22.steady Closed22.soonest
+    Clock22.timersOf Clock22.withTimers Clock22.shifterOf Clock22.withShifter Clock22.clockOf Closed22.steady Closed22.soonest
     Timer.clocked Access32.ioWritten Access32.writeOf
     within Raster.wellRegisters Raster.wellLine Raster.wellFrame Raster.wellRaster Raster.rasterUp Stored.stored
     Clocked.lineClocked Clocked.newFrame Clocked.adjustMoved Clocked.rowEnded Clocked.frameMoved Clocked.vsyncStarted Clocked.lineEnded

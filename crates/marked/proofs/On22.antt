@@ -26,14 +26,10 @@ use Rattle.marked.proofs.Tests.{same, same-comes}
 
 -- when the flags are set
 flag1-due : (k : ℕ) (v : Via) → flag1 k v ≡ comes (due1 v) k
-unfolding withTimers
-flag1-due k v =
-    ap (λ (u : Via). bit 6 (u .ifr)) (Lens.each-after k v) ∙ Lens.flag1 _ _ (v .ifr) ∙ Firsts.flag-due (timersOf v .t1) k
+flag1-due k v = Lens.flag1-after k v ∙ Firsts.flag-due (timersOf v .t1) k
 
 flag2-due : (k : ℕ) (v : Via) → flag2 k v ≡ comes (due2 v) k
-unfolding withTimers
-flag2-due k v =
-    ap (λ (u : Via). bit 5 (u .ifr)) (Lens.each-after k v) ∙ Lens.flag2 _ _ (v .ifr) ∙ Seconds.flag-due (timersOf v .t2) k
+flag2-due k v = Lens.flag2-after k v ∙ Seconds.flag-due (timersOf v .t2) k
 
 counter2 : (k : ℕ) (v : Via) → after k clockOf v .t2 .counter ≡ after k Second.clocked (timersOf v .t2) .counter
 unfolding withTimers

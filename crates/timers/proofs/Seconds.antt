@@ -9,8 +9,8 @@ use Rattle.clocks.specs.Forecasts.{comes}
 use Rattle.clocks.specs.declared.Forecast.{Forecast}
 use Rattle.clocks.specs.declared.Forecast.the-variants.{Never, In}
 use Rattle.clocks.proofs.Turns.{Turns, after-short, after-past, flag-after}
-use Rattle.clocks.proofs.Clocks.{after-keeps}
-use Rattle.clocks.proofs.Tests.{on-false, picked}
+use Rattle.clocks.proofs.Clocks.{after-still, after-agree}
+use Rattle.clocks.proofs.Tests.{picked}
 use Rattle.clocks.proofs.Forecasts.{stood-comes, AtMost, most-gated}
 use Rattle.timers.specs.Second.{counted, clocked, pulsed}
 use Rattle.timers.specs.declared.T2.{T2}
@@ -45,21 +45,13 @@ turns t =
 
 -- pulses count, so clocks do nothing
 pub resting : (n : ℕ) (t : T2) → t .pulse ≡ true → after n clocked t ≡ t
-unfolding after clocked
-resting zero t p = refl
-resting (suc n) t p = ap clocked (resting n t p) ∙ rw p
-
-keeps-pulse : (n : ℕ) (t : T2) → after n counted t .pulse ≡ t .pulse
-unfolding counted
-keeps-pulse n t = after-keeps (λ u. u .pulse ≡ t .pulse) counted (λ u e. e) n t refl
+unfolding clocked
+resting n t p = after-still clocked t (rw p) n
 
 -- clocks count
 counting : (n : ℕ) (t : T2) → t .pulse ≡ false → after n clocked t ≡ after n counted t
-unfolding after clocked
-counting zero t p = refl
-counting (suc n) t p =
-    ap clocked (counting n t p)
-    ∙ on-false (after n counted t .pulse) (after n counted t) (counted (after n counted t)) (keeps-pulse n t ∙ p)
+unfolding clocked counted
+counting n t p = after-agree (λ u. u .pulse ≡ false) clocked counted (λ u e. rw e) (λ u e. e) n t p
 
 module _ (t : T2) (p : t .pulse ≡ false) where
   pub ran-short : (n : ℕ) → n ≤ t .counter → after n clocked t ≡ fallen (t .counter - n) t

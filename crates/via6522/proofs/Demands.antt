@@ -15,7 +15,7 @@ use Rattle.ports.proofs.Demands as Ports
 use Rattle.timers.proofs.Passings.{rounds, idle}
 use Rattle.via6522.specs.Record.{wellFormed, resetOf}
 use Rattle.via6522.specs.Ports.{linesB, shownA, shownB}
-use Rattle.via6522.specs.Clock.{timersOf, withTimers}
+use Rattle.via6522.specs.Clock.{timersOf, withTimers, withShifter}
 use Rattle.via6522.specs.Chip.{chip, clocked, lined, flags, readingOf}
 use Rattle.via6522.specs.Demands
 use Rattle.via6522.proofs.Formed.{formed}
@@ -86,12 +86,12 @@ shown-by-bit-b v k h l =
     (bit-picked k kept (v .«kept_b») (v .b .outside))
 
 pub t1-period : Demands.T1-period
-unfolding timersOf withTimers
+unfolding timersOf withTimers withShifter
 t1-period v n w m = rw (each-after n v) (rounds (timersOf v .t1) m (formed v w .top m) n)
 
 pub t1-disarmed : Demands.T1-disarmed
-unfolding timersOf withTimers
-t1-disarmed v n f a = rw (each-after n v) (let h = idle (timersOf v .t1) f a n in (h .disarmed, flag1 _ _ (v .ifr) ∙ h .flag, h .level))
+unfolding timersOf withTimers withShifter
+t1-disarmed v n f a = rw (each-after n v) (let h = idle (timersOf v .t1) f a n in (h .disarmed, flag1 _ _ _ ∙ h .flag, h .level))
 
 pub read-answers : Demands.Read-answers
 unfolding readingOf

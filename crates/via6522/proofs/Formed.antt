@@ -1,9 +1,9 @@
 -- What the test of a well-formed record says, and the test from what it says.
 use mathlib.Core.Path.{_≡_, refl}
 use mathlib.Core.Bool.{Bool, true, false, not, _||_, false≢true}
-use Prim.Native.Nat.{ℕ, _<_}
+use Prim.Native.Nat.{ℕ, _<_, _≤_}
 use lib.Dec.{eqb}
-use borrow.Author.Tests.{eqb-true, eq-eqb, ltb-true, lt-ltb}
+use borrow.Author.Tests.{eqb-true, eq-eqb, ltb-true, lt-ltb, leb-true, le-leb}
 use Rattle.clocks.proofs.Tests.{both}
 use Rattle.flags.specs.Flags.{allowedPcr}
 use Rattle.via6522.specs.Record.{allowedAcr, wellFormed}
@@ -16,6 +16,7 @@ pub record Formed (v : Via) : Type 0 where
   pub codes : allowedPcr (v .pcr) ≡ true
   pub top : v .t1 .mark ≡ true → v .t1 .counter ≡ 65535
   pub levels : v .control < 16
+  pub few : v .sr .left ≤ 8
 
 at-top : (m : Bool) (c : ℕ) → (not m || eqb c 65535) ≡ true → m ≡ true → c ≡ 65535
 at-top true c h e = eqb-true c 65535 h
@@ -27,7 +28,8 @@ top-test false c h = refl
 
 pub formed : (v : Via) → wellFormed v ≡ true → Formed v
 formed v w =
-    let e = both _ _ w in
+    let f = both _ _ w in
+    let e = both _ _ (f .0) in
     let d = both _ _ (e .0) in
     let c = both _ _ (d .0) in
     let b = both _ _ (c .0) in
@@ -39,6 +41,7 @@ formed v w =
       codes = c .1;
       top = at-top (v .t1 .mark) (v .t1 .counter) (d .1);
       levels = ltb-true (v .control) 16 (e .1);
+      few = leb-true (v .sr .left) 8 (f .1);
     }
 
 pub well : (v : Via) → Formed v → wellFormed v ≡ true
@@ -50,4 +53,5 @@ well v h =
       h .codes,
       top-test (v .t1 .mark) (v .t1 .counter) (h .top),
       lt-ltb (v .control) 16 (h .levels),
+      le-leb (v .sr .left) 8 (h .few),
     )

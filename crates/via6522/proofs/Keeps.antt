@@ -1,36 +1,32 @@
 -- What calls keep of a record: that it is well formed, and the ranges that the types of its timers give.
 use mathlib.Core.Path.{_≡_, refl}
 use mathlib.Core.Bool.{Bool, true, false, not, _&&_, _||_, false≢true}
-use Prim.Native.Nat.{ℕ, suc, _+_, _*_, _/_, _%_, _^_, _<_}
+use Prim.Native.Nat.{ℕ, suc, _+_, _*_, _/_, _%_, _<_, _≤_, zero-le}
 use native.Mathlib.Omega.{arith}
 use lib.Dec.{eqb, ltb, lit<}
-use lib.Bits.{or-lt}
 use borrow.Author.Tests.{ltb-false, not-false}
 use Rattle.clocks.specs.Clocks.{if_then_else_}
-use Rattle.clocks.specs.Bits.{withSet, withBit}
 use Rattle.clocks.proofs.Clocks.{after-keeps}
+use Rattle.clocks.proofs.Bits.{with-lt}
 use Rattle.clocks.proofs.Tests.{neither, picked}
 use Rattle.calls.specs.Calls.{Typed22}
 use Rattle.calls.specs.declared.Call22.{Call22}
 use Rattle.calls.specs.declared.Call22.the-variants.{Reset, Write, Read, Pins, Run, Forecast}
-use Rattle.flags.specs.Flags.{allowedPcr}
+use Rattle.flags.specs.Flags.{allowedPcr, writeClears}
 use Rattle.flags.proofs.Demands.{raised-seven, cleared-seven, enabled-seven}
 use Rattle.timers.proofs.Firsts.{marked-top}
 use Rattle.timers.proofs.Seconds.{pulsed-range}
 use Rattle.timers.proofs.Pairs as Pairs
+use Rattle.shifter.proofs.Runs.{clocked-few, pulsed-few, accessed-few}
 use Rattle.via6522.specs.Record.{allowedAcr, resetOf}
-use Rattle.via6522.specs.Access.{readOf, writeAsks, stored, writeOf}
-use Rattle.via6522.specs.Pins.{pinsAsks, pulsed, settled, pinsOf}
-use Rattle.via6522.specs.Clock.{timersOf, withTimers, clockOf}
+use Rattle.via6522.specs.Flags.{cleared}
+use Rattle.via6522.specs.Access.{restarted, readOf, writeAsks, stored, writeOf}
+use Rattle.via6522.specs.Pins.{pinsAsks, pulsed, shiftPulsed, settled, pinsOf}
+use Rattle.via6522.specs.Clock.{timersOf, withTimers, shifterOf, withShifter, levelCB2, clockOf}
 use Rattle.via6522.specs.Chip.{asksOf, leavesOf}
+use Rattle.via6522.specs.declared.Serial.{Serial}
 use Rattle.via6522.specs.declared.Via.{Via}
 use Rattle.via6522.proofs.Formed.{Formed}
-
--- a flag of T1 or T2 leaves seven bits seven
-bit-seven : (k : ℕ) (b : Bool) (x : ℕ) → 2 ^ k < 128 → x < 128 → withBit k b x < 128
-unfolding withBit withSet
-bit-seven k true x h l = or-lt 7 x (2 ^ k) l h
-bit-seven k false x h l = cleared-seven (2 ^ k) x l
 
 -- ---- well formed
 
@@ -47,6 +43,10 @@ allowed-write r x k ok old e h = go (eqb r k) e
     go true e = not-false (ok x) e
     go false e = h
 
+restarted-few : (v : Via) → v .sr .left ≤ 8 → restarted v .left ≤ 8
+unfolding restarted shifterOf
+restarted-few v h = accessed-few (shifterOf v) h
+
 write-formed : (r x : ℕ) (v : Via) → writeAsks r x ≡ 0 → Formed v → Formed (writeOf r x v)
 unfolding writeAsks writeOf stored
 write-formed r x v e h =
@@ -59,41 +59,59 @@ write-formed r x v e h =
       codes = allowed-write r x 12 allowedPcr (v .pcr) (form .1) (h .codes);
       top = top (eqb r 5);
       levels = h .levels;
+      few = few;
     }
   where
     top : (b : Bool) → (if b then false else v .t1 .mark) ≡ true → (if b then x * 256 + v .t1 .latch % 256 else v .t1 .counter) ≡ 65535
     top true q = absurd (false≢true q)
     top false q = h .top q
 
+    few : stored r x (cleared (writeClears r x (v .pcr)) v) .sr .left ≤ 8
+    few =
+        picked (λ (n : ℕ). n ≤ 8) (eqb r 10) (restarted-few (cleared (writeClears r x (v .pcr)) v) (h .few))
+        (picked (λ (n : ℕ). n ≤ 8) (eqb r 11) zero-le (h .few))
+
 pins-formed : (pa pb control : ℕ) (v : Via) → pinsAsks control ≡ 0 → Formed v → Formed (pinsOf pa pb control v)
-unfolding pinsAsks pinsOf settled
+unfolding pinsAsks pinsOf settled withShifter shiftPulsed shifterOf
 pins-formed pa pb control v e h =
     let l = ltb-false 15 control (passes (ltb 15 control) 0 4 e .0) in
     record {
-      flags = raised-seven (v .pcr) (v .control) control _ (bit-seven 5 (pulsed pb v .flag) (v .ifr) (lit< tt) (h .flags));
+      flags =
+          raised-seven (v .pcr) (v .control) control _
+          (with-lt 7 2 (shiftPulsed control v .flag) _ (lit< tt) (with-lt 7 5 (pulsed pb v .flag) (v .ifr) (lit< tt) (h .flags)));
       enables = h .enables;
       modes = h .modes;
       codes = h .codes;
       top = h .top;
       levels = omega arith;
+      few = pulsed-few _ _ (shifterOf v) (h .few);
     }
 
 pub clock-formed : (v : Via) → Formed v → Formed (clockOf v)
-unfolding clockOf withTimers
+unfolding clockOf withTimers withShifter shifterOf
 clock-formed v h =
     record {
-      flags = bit-seven 6 _ _ (lit< tt) (bit-seven 5 _ (v .ifr) (lit< tt) (h .flags));
+      flags = with-lt 7 6 _ _ (lit< tt) (with-lt 7 5 _ _ (lit< tt) (with-lt 7 2 _ (v .ifr) (lit< tt) (h .flags)));
       enables = h .enables;
       modes = h .modes;
       codes = h .codes;
       top = marked-top (timersOf v .t1);
       levels = h .levels;
+      few = clocked-few (levelCB2 v) (shifterOf v) (h .few);
     }
 
 pub leaves-formed : (c : Call22) (v : Via) → asksOf c v ≡ 0 → Formed v → Formed (leavesOf c v)
 unfolding resetOf readOf
 leaves-formed Reset v e h =
-    record { flags = lit< tt; enables = lit< tt; modes = refl; codes = refl; top = λ q. absurd (false≢true q); levels = h .levels }
+    record {
+      flags = lit< tt;
+      enables = lit< tt;
+      modes = refl;
+      codes = refl;
+      top = λ q. absurd (false≢true q);
+      levels = h .levels;
+      few = zero-le;
+    }
 leaves-formed (Write r x) v e h = write-formed r x v e h
 leaves-formed (Read r) v e h =
     record {
@@ -103,6 +121,7 @@ leaves-formed (Read r) v e h =
       codes = h .codes;
       top = h .top;
       levels = h .levels;
+      few = picked (λ (s : Serial). s .left ≤ 8) (eqb r 10) (restarted-few v (h .few)) (h .few);
     }
 leaves-formed (Pins pa pb control) v e h = pins-formed pa pb control v e h
 leaves-formed (Run n) v e h = after-keeps Formed clockOf clock-formed n v h
@@ -113,7 +132,7 @@ abbrev pub Ranged : Via → Type 0
 Ranged v = Pairs.Ranged (v .t1 .latch) (v .t1 .counter) (v .t2 .low) (v .t2 .counter)
 
 clock-ranged : (v : Via) → Ranged v → Ranged (clockOf v)
-unfolding clockOf withTimers timersOf
+unfolding clockOf withTimers withShifter timersOf
 clock-ranged v h = Pairs.clock-ranged (timersOf v) h
 
 write-ranged : (r x : ℕ) (v : Via) → x < 256 → Ranged v → Ranged (writeOf r x v)
@@ -132,7 +151,7 @@ write-ranged r x v l h =
     }
 
 pub leaves-ranged : (c : Call22) (v : Via) → Typed22 c → Ranged v → Ranged (leavesOf c v)
-unfolding resetOf readOf pinsOf settled pulsed timersOf
+unfolding resetOf readOf pinsOf settled withShifter pulsed timersOf
 leaves-ranged Reset v t h = h
 leaves-ranged (Write r x) v t h = write-ranged r x v (t .1) h
 leaves-ranged (Read r) v t h = h

@@ -1,81 +1,80 @@
--- When the interrupt line is asserted: by the flag of a timer, or by one that no clock moves.
-use mathlib.Core.Path.{_≡_, refl, sym, ap, ap₂, _∙_}
-use mathlib.Core.Bool.{Bool, true, false, _&&_, _||_, or-true}
+-- When the interrupt line is asserted: by the flag of a timer or of the shift register, or by one that no clock moves.
+use mathlib.Core.Path.{_≡_, sym, ap, ap₂, _∙_}
+use mathlib.Core.Bool.{Bool, false, _&&_, _||_}
 use Prim.Native.Nat.{ℕ}
 use native.Mathlib.Omega.{arith}
-use lib.Dec.{leb·zero}
-use borrow.Author.Tests.{ne-eqb}
+use lib.Dec.{leb·zero, lit<}
 use Rattle.clocks.specs.Clocks.{if_then_else_, after}
 use Rattle.clocks.specs.Bits.{bit, withBit, shares}
 use Rattle.clocks.specs.Forecasts.{comes, soonerOf}
 use Rattle.clocks.specs.declared.Forecast.{Forecast}
 use Rattle.clocks.specs.declared.Forecast.the-variants.{Never, In}
-use Rattle.clocks.proofs.Bits.{bit-with, shares-same}
+use Rattle.clocks.proofs.Bits.{with-swap, shares-with}
 use Rattle.clocks.proofs.Forecasts.{sooner-comes, gate-comes}
 use Rattle.timers.specs.First as First
 use Rattle.timers.specs.Second as Second
+use Rattle.shifter.specs.Shifter as Shift
 use Rattle.via6522.specs.Flags.{irqOf}
-use Rattle.via6522.specs.Clock.{timersOf, withTimers, clockOf}
+use Rattle.via6522.specs.Clock.{timersOf, withTimers, shifterOf, withShifter, levelCB2, clockOf}
 use Rattle.via6522.specs.Closed.{steady, soonest}
 use Rattle.via6522.specs.declared.Via.{Via}
-use Rattle.via6522.proofs.Lens.{flags, flag1, flag2, each-after}
+use Rattle.via6522.proofs.Lens.{flags, each-after}
 
--- what eight bits share, the top three apart
-abbrev apart : ℕ → Bool → Bool → Bool → Bool → Bool
-apart y p q r s = p && bit 7 y || (q && bit 6 y || (r && bit 5 y || s))
+-- IFR with the flags of T1, T2 and the shift register, which are those that clocks move
+abbrev moved : Bool → Bool → Bool → ℕ → ℕ
+moved a b c x = flags a b (withBit 2 c x)
 
-shares-apart : (x y : ℕ) → shares 8 x y ≡ apart y (bit 7 x) (bit 6 x) (bit 5 x) (shares 5 x y)
-unfolding shares
-shares-apart x y = refl
-
--- with the timers' flags a and b, and with neither
-with-flags : (a b : Bool) (x y : ℕ) → shares 8 (flags a b x) y ≡ apart y (bit 7 x) a b (shares 5 x y)
-with-flags a b x y =
-    shares-apart (flags a b x) y
-    ∙ (λ i. apart y (top i) (flag1 a b x i) (flag2 a b x i) (low i))
+-- each of them by itself
+line-split :
+    (a b c : Bool) (x y : ℕ)
+    → shares 8 (moved a b c x) y ≡ (a && bit 6 y || (b && bit 5 y || (c && bit 2 y || shares 8 (moved false false false x) y)))
+line-split a b c x y =
+    shares-with 8 6 a (withBit 5 b (withBit 2 c x)) y (lit< tt)
+    ∙ ap (λ (r : Bool). a && bit 6 y || r)
+    (ap (λ (z : ℕ). shares 8 z y) (with-swap 6 5 false b (withBit 2 c x) (λ e. omega (arith, e)))
+    ∙ shares-with 8 5 b (withBit 6 false (withBit 2 c x)) y (lit< tt)
+    ∙ ap (λ (r : Bool). b && bit 5 y || r)
+    (ap (λ (z : ℕ). shares 8 z y) (first c)
+    ∙ shares-with 8 2 c (withBit 5 false (withBit 6 false x)) y (lit< tt)
+    ∙ ap (λ (r : Bool). c && bit 2 y || r) (ap (λ (z : ℕ). shares 8 z y) last)))
   where
-    top : bit 7 (flags a b x) ≡ bit 7 x
-    top = bit-with 6 a 7 (withBit 5 b x) ∙ bit-with 5 b 7 x
+    first : (c : Bool) → withBit 5 false (withBit 6 false (withBit 2 c x)) ≡ withBit 2 c (withBit 5 false (withBit 6 false x))
+    first c =
+        ap (withBit 5 false) (with-swap 6 2 false c x (λ e. omega (arith, e)))
+        ∙ with-swap 5 2 false c (withBit 6 false x) (λ e. omega (arith, e))
 
-    low : shares 5 (flags a b x) y ≡ shares 5 x y
-    low =
-        shares-same 5 (flags a b x) x y
-        (λ k l. bit-with 6 a k (withBit 5 b x)
-        ∙ rw (ne-eqb k 6 (omega arith)) (bit-with 5 b k x ∙ rw (ne-eqb k 5 (omega arith))))
+    last : withBit 2 false (withBit 5 false (withBit 6 false x)) ≡ moved false false false x
+    last = sym (first false) ∙ with-swap 5 6 false false (withBit 2 false x) (λ e. omega (arith, e))
 
--- each enabled flag by itself
-mix : (p q r s : Bool) → (p || (q || (r || s))) ≡ (q || (r || (p || s)))
-mix true q true s = sym (or-true q)
-mix true q false s = sym (or-true q)
-mix false q r s = refl
-
-line-split : (a b : Bool) (x y : ℕ) → shares 8 (flags a b x) y ≡ (a && bit 6 y || (b && bit 5 y || shares 8 (flags false false x) y))
-line-split a b x y =
-    with-flags a b x y
-    ∙ mix (bit 7 x && bit 7 y) (a && bit 6 y) (b && bit 5 y) (shares 5 x y)
-    ∙ ap (λ (r : Bool). a && bit 6 y || (b && bit 5 y || r)) (sym (with-flags false false x y))
-
--- the three forecasts, taken apart
-three : (v : Via) (f g : Forecast) (k : ℕ) →
-    comes (soonest v f g) k
-    ≡ (comes f k && bit 6 (v .ier) || (comes g k && bit 5 (v .ier) || shares 8 (flags false false (v .ifr)) (v .ier)))
+-- the four forecasts, taken apart
+four : (v : Via) (f g h : Forecast) (k : ℕ) →
+    comes (soonest v f g h) k
+    ≡ (comes f k && bit 6 (v .ier)
+    || (comes g k && bit 5 (v .ier) || (comes h k && bit 2 (v .ier) || shares 8 (moved false false false (v .ifr)) (v .ier))))
 unfolding soonest steady
-three v f g k =
-    let others = shares 8 (flags false false (v .ifr)) (v .ier) in
-    sooner-comes (if bit 6 (v .ier) then f else Never) (soonerOf (if bit 5 (v .ier) then g else Never) (if others then In 0 else Never)) k
+four v f g h k =
+    let others = shares 8 (moved false false false (v .ifr)) (v .ier) in
+    let first = if bit 6 (v .ier) then f else Never in
+    let second = if bit 5 (v .ier) then g else Never in
+    let third = if bit 2 (v .ier) then h else Never in
+    let now = if others then In 0 else Never in
+    sooner-comes first (soonerOf second (soonerOf third now)) k
     ∙ ap₂ _||_ (gate-comes (bit 6 (v .ier)) f k)
-    (sooner-comes (if bit 5 (v .ier) then g else Never) (if others then In 0 else Never) k
-    ∙ ap₂ _||_ (gate-comes (bit 5 (v .ier)) g k) (gate-comes others (In 0) k ∙ ap (λ (b : Bool). b && others) (leb·zero k)))
+    (sooner-comes second (soonerOf third now) k
+    ∙ ap₂ _||_ (gate-comes (bit 5 (v .ier)) g k)
+    (sooner-comes third now k
+    ∙ ap₂ _||_ (gate-comes (bit 2 (v .ier)) h k) (gate-comes others (In 0) k ∙ ap (λ (b : Bool). b && others) (leb·zero k))))
 
--- where f and g say when the flags of the timers are set, the soonest says when the line is asserted
+-- where f, g and h say when the flags of T1, T2 and the shift register are set, the soonest says when the line is asserted
 pub line-after :
-    (v : Via) (f g : Forecast)
+    (v : Via) (f g h : Forecast)
     → ((k : ℕ) → after k First.clocked (timersOf v .t1) .flag ≡ comes f k)
     → ((k : ℕ) → after k Second.clocked (timersOf v .t2) .flag ≡ comes g k)
-    → (k : ℕ) → irqOf (after k clockOf v) ≡ comes (soonest v f g) k
-unfolding withTimers
-line-after v f g hf hg k =
+    → ((level : Bool) (k : ℕ) → after k (Shift.clocked level) (shifterOf v) .flag ≡ comes h k)
+    → (k : ℕ) → irqOf (after k clockOf v) ≡ comes (soonest v f g h) k
+unfolding withTimers withShifter
+line-after v f g h hf hg hh k =
     ap irqOf (each-after k v)
-    ∙ ap₂ (λ (a b : Bool). shares 8 (flags a b (v .ifr)) (v .ier)) (hf k) (hg k)
-    ∙ line-split (comes f k) (comes g k) (v .ifr) (v .ier)
-    ∙ sym (three v f g k)
+    ∙ (λ i. shares 8 (moved (hf k i) (hg k i) (hh (levelCB2 v) k i) (v .ifr)) (v .ier))
+    ∙ line-split (comes f k) (comes g k) (comes h k) (v .ifr) (v .ier)
+    ∙ sym (four v f g h k)

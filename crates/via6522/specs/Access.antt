@@ -5,10 +5,17 @@ use lib.Dec.{eqb, ltb}
 use Rattle.clocks.specs.Clocks.{if_then_else_}
 use Rattle.clocks.specs.Bits.{withBit}
 use Rattle.flags.specs.Flags.{allowedPcr, readClears, writeClears, shown, enabled}
+use Rattle.shifter.specs.Shifter.{accessed}
 use Rattle.via6522.specs.Record.{allowedAcr}
-use Rattle.via6522.specs.Flags.{cleared}
+use Rattle.via6522.specs.Flags.{withSr, cleared}
 use Rattle.via6522.specs.Ports.{shownA, shownB}
+use Rattle.via6522.specs.Clock.{shifterOf, serialOf}
+use Rattle.via6522.specs.declared.Serial.{Serial}
 use Rattle.via6522.specs.declared.Via.{Via}
+
+-- what an access leaves of the shift register
+unfoldable pub restarted : Via → Serial
+restarted v = serialOf (accessed (shifterOf v))
 
 -- ---- reads
 
@@ -29,15 +36,16 @@ dataOf r v =
     if eqb r 7 then v .t1 .latch / 256 else
     if eqb r 8 then v .t2 .counter % 256 else
     if eqb r 9 then v .t2 .counter / 256 else
-    if eqb r 10 then v .sr else
+    if eqb r 10 then v .sr .byte else
     if eqb r 11 then v .acr else
     if eqb r 12 then v .pcr else
     if eqb r 13 then shown (v .ifr) (v .ier) else
     if eqb r 14 then withBit 7 true (v .ier) else
     shownA v
 
+-- a read of SR is an access to the shift register
 unfoldable pub readOf : ℕ → Via → Via
-readOf r v = cleared (readClears r (v .pcr)) v
+readOf r v = withSr (if eqb r 10 then restarted v else v .sr) (cleared (readClears r (v .pcr)) v)
 
 -- ---- writes
 
@@ -55,7 +63,8 @@ lowHalf x latch = latch / 256 * 256 + x
 abbrev pub highHalf : ℕ → ℕ → ℕ
 highHalf x latch = x * 256 + latch % 256
 
--- what a write stores. A write of T1's high counter byte loads and arms it, with its level low; one of T2's loads and arms that
+-- what a write stores. A write of T1's high counter byte loads and arms it, with its level low; one of T2's loads and arms that. A write of
+-- SR is an access to the shift register besides, and one of ACR, of the same mode too, stops its shifts
 unfoldable pub stored : ℕ → ℕ → Via → Via
 stored r x v =
     record {
@@ -90,7 +99,13 @@ stored r x v =
             low = if eqb r 8 then x else v .t2 .low;
             armed = if eqb r 9 then true else v .t2 .armed;
           };
-      sr = if eqb r 10 then x else v .sr;
+      sr =
+          record {
+            byte = if eqb r 10 then x else v .sr .byte;
+            left = if eqb r 10 then restarted v .left else if eqb r 11 then 0 else v .sr .left;
+            half = if eqb r 10 then restarted v .half else if eqb r 11 then false else v .sr .half;
+            output = v .sr .output;
+          };
       acr = if eqb r 11 then x else v .acr;
       pcr = if eqb r 12 then x else v .pcr;
       ifr = v .ifr;

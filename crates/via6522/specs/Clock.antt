@@ -1,7 +1,12 @@
--- The timer pair of the chip, and one clock.
+-- The timer pair of the chip, its shift register, and one clock.
+use mathlib.Core.Bool.{Bool}
 use Rattle.clocks.specs.Bits.{bit, withBit}
 use Rattle.timers.specs.Pair as Pair
 use Rattle.timers.specs.declared.Timers.{Timers}
+use Rattle.shifter.specs.Shifter as Shift
+use Rattle.shifter.specs.declared.Shifter.{Shifter}
+use Rattle.via6522.specs.Record.{modeOf}
+use Rattle.via6522.specs.declared.Serial.{Serial}
 use Rattle.via6522.specs.declared.Via.{Via}
 
 -- the pair is gathered from where the chip has it: the flags are bits 6 and 5 of IFR, the modes the same bits of ACR
@@ -53,6 +58,44 @@ withTimers p v =
       control = v .control;
     }
 
--- a clock moves the pair and nothing else
+-- the shift register is gathered likewise: its flag is bit 2 of IFR, its mode bits 4 to 2 of ACR
+unfoldable pub shifterOf : Via → Shifter
+shifterOf v =
+    record {
+      byte = v .sr .byte;
+      left = v .sr .left;
+      half = v .sr .half;
+      output = v .sr .output;
+      flag = bit 2 (v .ifr);
+      mode = modeOf (v .acr);
+    }
+
+-- what the record has of it beside flag and mode
+abbrev pub serialOf : Shifter → Serial
+serialOf s = record { byte = s .byte; left = s .left; half = s .half; output = s .output }
+
+-- the chip with another shift register
+unfoldable pub withShifter : Shifter → Via → Via
+withShifter s v =
+    record {
+      a = v .a;
+      «kept_a» = v .«kept_a»;
+      b = v .b;
+      «kept_b» = v .«kept_b»;
+      t1 = v .t1;
+      t2 = v .t2;
+      sr = serialOf s;
+      acr = v .acr;
+      pcr = v .pcr;
+      ifr = withBit 2 (s .flag) (v .ifr);
+      ier = v .ier;
+      control = v .control;
+    }
+
+-- the level outside that an input shift takes
+abbrev pub levelCB2 : Via → Bool
+levelCB2 v = bit 3 (v .control)
+
+-- a clock moves the pair and the shift register, side by side, and nothing else
 unfoldable pub clockOf : Via → Via
-clockOf v = withTimers (Pair.clocked (timersOf v)) v
+clockOf v = withTimers (Pair.clocked (timersOf v)) (withShifter (Shift.clocked (levelCB2 v) (shifterOf v)) v)

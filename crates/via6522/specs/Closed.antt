@@ -10,10 +10,11 @@ use Rattle.via6522.specs.declared.Via.{Via}
 
 -- whether a flag that no clock moves asserts the line
 unfoldable pub steady : Via → Bool
-steady v = interrupt (withBit 6 false (withBit 5 false (v .ifr))) (v .ier)
+steady v = interrupt (withBit 6 false (withBit 5 false (withBit 2 false (v .ifr)))) (v .ier)
 
--- when the line is asserted, given when the flags of T1 and T2 are set
-unfoldable pub soonest : Via → Forecast → Forecast → Forecast
-soonest v due1 due2 =
+-- when the line is asserted, given when the flags of T1, T2 and the shift register are set
+unfoldable pub soonest : Via → Forecast → Forecast → Forecast → Forecast
+soonest v due1 due2 due3 =
     soonerOf (if bit 6 (v .ier) then due1 else Never)
-    (soonerOf (if bit 5 (v .ier) then due2 else Never) (if steady v then In 0 else Never))
+    (soonerOf (if bit 5 (v .ier) then due2 else Never)
+    (soonerOf (if bit 2 (v .ier) then due3 else Never) (if steady v then In 0 else Never)))

@@ -1,5 +1,5 @@
--- New levels outside: pulses on PB6, edges on the control lines, and kept port lines. Every edge is from the levels before the call.
-use mathlib.Core.Bool.{false}
+-- New levels outside: pulses on PB6 and on CB1, edges on the control lines, and kept port lines. Every edge is from the levels before the call.
+use mathlib.Core.Bool.{true, false}
 use Prim.Native.Nat.{ℕ}
 use lib.Dec.{ltb}
 use Rattle.clocks.specs.Clocks.{if_then_else_}
@@ -8,8 +8,10 @@ use Rattle.ports.specs.Ports.{edge, linesFor}
 use Rattle.flags.specs.Flags.{raised, keepsA, keepsB}
 use Rattle.timers.specs.Second as Second
 use Rattle.timers.specs.declared.T2.{T2}
+use Rattle.shifter.specs.Shifter as Shift
+use Rattle.shifter.specs.declared.Shifter.{Shifter}
 use Rattle.via6522.specs.Ports.{linesB}
-use Rattle.via6522.specs.Clock.{timersOf}
+use Rattle.via6522.specs.Clock.{timersOf, shifterOf, withShifter}
 use Rattle.via6522.specs.declared.Via.{Via}
 
 -- more control levels than there are lines are refused
@@ -19,6 +21,10 @@ pinsAsks control = if ltb 15 control then 5 else 0
 -- T2 after a fall of PB6 outside, whatever the port does with that line
 unfoldable pub pulsed : ℕ → Via → T2
 pulsed pb v = Second.pulsed (edge false (bit 6 (v .b .outside)) (bit 6 pb)) (timersOf v .t2)
+
+-- the shift register after a rise of CB1 outside, with CB2 as this call leaves it; what PCR says of either does not matter
+unfoldable pub shiftPulsed : ℕ → Via → Shifter
+shiftPulsed control v = Shift.pulsed (edge true (bit 2 (v .control)) (bit 2 control)) (bit 3 control) (shifterOf v)
 
 -- the record with T2 as a pulse left it
 abbrev pub withPulse : T2 → Via → Via
@@ -57,4 +63,4 @@ settled pa pb control v =
     }
 
 unfoldable pub pinsOf : ℕ → ℕ → ℕ → Via → Via
-pinsOf pa pb control v = settled pa pb control (withPulse (pulsed pb v) v)
+pinsOf pa pb control v = settled pa pb control (withShifter (shiftPulsed control v) (withPulse (pulsed pb v) v))

@@ -1,18 +1,24 @@
 -- The record: which ones are well formed, what it has at power-up, and what a reset does to it.
 use mathlib.Core.Bool.{Bool, true, false, not, _&&_, _||_}
 use Prim.Native.Nat.{ℕ, _/_, _%_}
-use lib.Dec.{eqb, ltb}
+use lib.Dec.{eqb, ltb, leb}
 use Rattle.ports.specs.Ports.{fresh, silent}
 use Rattle.flags.specs.Flags.{allowedPcr}
 use Rattle.via6522.specs.declared.Count1.{Count1}
 use Rattle.via6522.specs.declared.Count2.{Count2}
+use Rattle.via6522.specs.declared.Serial.{Serial}
 use Rattle.via6522.specs.declared.Via.{Via}
 
--- the shift modes of ACR are left out of this bench
-abbrev pub allowedAcr : ℕ → Bool
-allowedAcr acr = eqb (acr / 4 % 8) 0
+-- bits 4 to 2 of ACR are the shift mode
+abbrev pub modeOf : ℕ → ℕ
+modeOf acr = acr / 4 % 8
 
--- no flag and no enable above the seven, no mode that is left out, the reload mark only where T1 reads 65,535, four control levels
+-- modes 1, 4 and 5, in which T2 would time the shifts, are left out of this bench
+abbrev pub allowedAcr : ℕ → Bool
+allowedAcr acr = not (eqb (modeOf acr) 1) && not (eqb (modeOf acr) 4) && not (eqb (modeOf acr) 5)
+
+-- no flag and no enable above the seven, no mode that is left out, the reload mark only where T1 reads 65,535, four control levels, and
+-- at most eight shifts to come
 abbrev pub wellFormed : Via → Bool
 wellFormed v =
     ltb (v .ifr) 128
@@ -21,6 +27,7 @@ wellFormed v =
     && allowedPcr (v .pcr)
     && (not (v .t1 .mark) || eqb (v .t1 .counter) 65535)
     && ltb (v .control) 16
+    && leb (v .sr .left) 8
 
 -- T1 disarmed and with no reload to come, and its level high
 abbrev pub idle1 : Count1 → Count1
@@ -29,7 +36,12 @@ idle1 t = record { counter = t .counter; latch = t .latch; armed = false; mark =
 abbrev pub idle2 : Count2 → Count2
 idle2 t = record { counter = t .counter; low = t .low; armed = false }
 
--- a reset clears ports, modes, flags and enables, and disarms the timers; counters, latches, SR, the kept lines and the levels outside stay
+-- no shift to come, the half-clock mark and the CB2 output clear
+abbrev pub idle3 : Serial → Serial
+idle3 s = record { byte = s .byte; left = 0; half = false; output = false }
+
+-- a reset clears ports, modes, flags and enables, disarms the timers and stops the shifts; counters, latches, SR's byte, the kept lines and
+-- the levels outside stay
 unfoldable pub resetOf : Via → Via
 resetOf v =
     record {
@@ -39,7 +51,7 @@ resetOf v =
       «kept_b» = v .«kept_b»;
       t1 = idle1 (v .t1);
       t2 = idle2 (v .t2);
-      sr = v .sr;
+      sr = idle3 (v .sr);
       acr = 0;
       pcr = 0;
       ifr = 0;
@@ -57,7 +69,7 @@ powerUp =
       «kept_b» = 0;
       t1 = record { counter = 65535; latch = 65535; armed = false; mark = false; level = true };
       t2 = record { counter = 65535; low = 255; armed = false };
-      sr = 0;
+      sr = record { byte = 0; left = 0; half = false; output = false };
       acr = 0;
       pcr = 0;
       ifr = 0;

@@ -1,14 +1,18 @@
 // The sixteen registers: which accesses are refused, the byte of each, and what a write to each stores.
 ghost use mathlib.Core.Path.{_≡_};
+ghost use lib.Dec.{eqb};
+ghost use Rattle.clocks.specs.Clocks.{if_then_else_};
 ghost use Rattle.via6522.specs.Record.{allowedAcr};
-ghost use Rattle.via6522.specs.Access.{dataOf, stored as storedOf, readAsks, writeAsks};
+ghost use Rattle.via6522.specs.Access.{restarted as restartedOf, dataOf, stored as storedOf, readAsks, writeAsks};
+use crate::Serial;
 use crate::Via;
 use clocks::choose8;
 
 pub(crate) fn allowed_acr(acr: u8) -> bool
     ensures { λ r. ⌜ r ≡ allowedAcr acr ⌝ }
 {
-    acr / 4 % 8 == 0
+    let mode = acr / 4 % 8;
+    (mode != 1) & (mode != 4) & (mode != 5)
 }
 
 pub(crate) fn read_asks(register: u8) -> u8
@@ -26,6 +30,24 @@ pub(crate) fn write_asks(register: u8, value: u8) -> u8
 }
 
 impl Via {
+    // What an access leaves of the shift register.
+    fn restarted(self) -> Serial
+        ensures { λ r. ⌜ r ≡ restartedOf self ⌝ }
+    {
+        crate::clock::serial(self.shifter().accessed())
+    }
+
+    // What a read leaves of it.
+    pub(crate) fn sr_after(self, register: u8) -> Serial
+        ensures { λ r. ⌜ r ≡ (if eqb register 10 then restartedOf self else self .sr) ⌝ }
+    {
+        if register == 10 {
+            self.restarted()
+        } else {
+            self.sr
+        }
+    }
+
     pub(crate) fn data(self, register: u8) -> u8
         ensures { λ r. ⌜ r ≡ dataOf register self ⌝ }
     {
@@ -40,7 +62,7 @@ impl Via {
             7 => (self.t1.latch / 256) as u8,
             8 => (self.t2.counter % 256) as u8,
             9 => (self.t2.counter / 256) as u8,
-            10 => self.sr,
+            10 => self.sr.byte,
             11 => self.acr,
             12 => self.pcr,
             13 => flags::shown(self.ifr, self.ier),
@@ -75,8 +97,17 @@ impl Via {
                 self.t2.counter = counter;
                 self.t2.armed = true;
             }
-            10 => self.sr = value,
-            11 => self.acr = value,
+            10 => {
+                let sr = self.restarted();
+                self.sr.byte = value;
+                self.sr.left = sr.left;
+                self.sr.half = sr.half;
+            }
+            11 => {
+                self.acr = value;
+                self.sr.left = 0;
+                self.sr.half = false;
+            }
             12 => self.pcr = value,
             14 => self.ier = flags::enabled(value, self.ier),
             15 => self.a.output = value,

@@ -1,4 +1,4 @@
-// The 6522: two ports with control lines, two timers, a shift register that only holds its byte, and the flags of them all.
+// The 6522: two ports with control lines, two timers, a shift register, and the flags of them all.
 // A call takes the record and hands it back inside its answer.
 ghost use mathlib.Core.Path.{_≡_};
 ghost use Rattle.clocks.specs.Clocks.{if_then_else_};
@@ -31,6 +31,14 @@ pub struct Count2 {
     pub armed: bool,
 }
 
+// The shift register likewise. `left`: shifts to come. `half`: the half-clock mark. `output`: what it puts on CB2.
+pub struct Serial {
+    pub byte: u8,
+    pub left: u8,
+    pub half: bool,
+    pub output: bool,
+}
+
 // `kept_a`, `kept_b`: the lines that the flags of CA1 and CB1 kept. `control`: the outside levels of CA1, CA2, CB1 and CB2 in bits 0 to 3.
 pub struct Via {
     pub a: Port,
@@ -39,7 +47,7 @@ pub struct Via {
     pub kept_b: u8,
     pub t1: Count1,
     pub t2: Count2,
-    pub sr: u8,
+    pub sr: Serial,
     pub acr: u8,
     pub pcr: u8,
     pub ifr: u8,
@@ -100,7 +108,12 @@ impl Via {
                 low: 255,
                 armed: false,
             },
-            sr: 0,
+            sr: Serial {
+                byte: 0,
+                left: 0,
+                half: false,
+                output: false,
+            },
             acr: 0,
             pcr: 0,
             ifr: 0,
@@ -145,6 +158,7 @@ impl Via {
             & flags::allowed_pcr(self.pcr)
             & (!self.t1.mark | (self.t1.counter == 65535))
             & (self.control < 16)
+            & (self.sr.left <= 8)
     }
 
     // The refusal that applies first, where the operands ask for `asked`.
@@ -169,6 +183,9 @@ impl Via {
         self.t1.mark = false;
         self.t1.level = true;
         self.t2.armed = false;
+        self.sr.left = 0;
+        self.sr.half = false;
+        self.sr.output = false;
         self.acr = 0;
         self.pcr = 0;
         self.ifr = 0;
@@ -189,7 +206,9 @@ impl Via {
         let data = self.data(register);
         let before = self.ifr;
         let clears = flags::read_clears(register, self.pcr);
+        let sr = self.sr_after(register);
         self.ifr = clocks::with_mask(clears, false, before);
+        self.sr = sr;
         Reading {
             cleared: clocks::gone(before, self.ifr),
             answer: self.accepted(data),
@@ -216,9 +235,12 @@ impl Via {
             return self.refused(number);
         }
         let t2 = self.pulsed(pb);
+        let s = self.shift_pulsed(control);
+        let sr = clock::serial(s);
         self.t2.counter = t2.counter;
         self.t2.armed = t2.armed;
-        self.ifr = clocks::with_mask(32, t2.flag, self.ifr);
+        self.sr = sr;
+        self.ifr = clocks::with_mask(4, s.flag, clocks::with_mask(32, t2.flag, self.ifr));
         self.settled(pa, pb, control).accepted(0)
     }
 
@@ -237,6 +259,8 @@ impl Via {
             return self.refused(number);
         }
         let p = self.timers().run(n);
+        let s = self.shifter().run(n, clocks::bit(3, self.control));
+        let sr = clock::serial(s);
         self.t1.counter = p.t1.counter;
         self.t1.latch = p.t1.latch;
         self.t1.armed = p.t1.armed;
@@ -245,7 +269,9 @@ impl Via {
         self.t2.counter = p.t2.counter;
         self.t2.low = p.t2.low;
         self.t2.armed = p.t2.armed;
-        self.ifr = clocks::with_mask(64, p.t1.flag, clocks::with_mask(32, p.t2.flag, self.ifr));
+        self.sr = sr;
+        let shifted = clocks::with_mask(4, s.flag, self.ifr);
+        self.ifr = clocks::with_mask(64, p.t1.flag, clocks::with_mask(32, p.t2.flag, shifted));
         self.accepted(0)
     }
 

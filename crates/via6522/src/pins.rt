@@ -1,10 +1,11 @@
 // New levels outside.
 ghost use mathlib.Core.Path.{_≡_};
-ghost use Rattle.via6522.specs.Pins.{pinsAsks, pulsed as pulsedOf, settled as settledOf};
+ghost use Rattle.via6522.specs.Pins.{pinsAsks, pulsed as pulsedOf, shiftPulsed, settled as settledOf};
 use crate::Via;
 use clocks::bit;
 use clocks::choose8;
 use ports::edge;
+use shifter::Shifter;
 use timers::T2;
 
 pub(crate) fn pins_asks(control: u8) -> u8
@@ -20,6 +21,14 @@ impl Via {
     {
         let fall = edge(false, bit(6, self.b.outside), bit(6, pb));
         self.second().pulsed(fall)
+    }
+
+    // The shift register after a rise of CB1 outside, with CB2 as the call leaves it.
+    pub(crate) fn shift_pulsed(self, control: u8) -> Shifter
+        ensures { λ r. ⌜ r ≡ shiftPulsed control self ⌝ }
+    {
+        let rise = edge(true, bit(2, self.control), bit(2, control));
+        self.shifter().pulsed(rise, bit(3, control))
     }
 
     // The edges of the control lines, and the lines that their flags keep.

@@ -15,9 +15,9 @@ returns c =
 returns-2 : tie.Need-returns-2
 unfolding resetOf
 returns-2 c =
-    let v = c .before .before .before .before .before .before .before .before .before .before .before .args .self in
-    c .accepted .ensures
-    ∙ sym (accepts chip Reset v (c .before .before .before .before .before .before .before .before .before .before .refusal .result) (c .before .before .before .before .before .before .before .before .before .before .refusal .ensures) (c .before .before .before .before .before .before .before .before .before .if1 .left))
+    let first = c .before .before .before .before .before .before .before .before .before .before .before .before .before in
+    let v = first .before .args .self in
+    c .accepted .ensures ∙ sym (accepts chip Reset v (first .refusal .result) (first .refusal .ensures) (c .before .before .before .before .before .before .before .before .before .before .before .before .if1 .left))
 
 pub reset-spec : {M : Type 1} → statement M
 reset-spec = tie.close (tie.spec (λ c κs. search needs) (λ c κs. search needs) returns (λ c κs. search needs) returns-2)

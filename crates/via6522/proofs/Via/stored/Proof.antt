@@ -53,11 +53,11 @@ returns-10 c = rw (c .before .before .before .match .keys10)
 
 returns-11 : tie.Need-returns-11
 unfolding stored
-returns-11 c = rw (c .match .keys11)
+returns-11 c = rw (c .before .before .before .restarted .ensures, c .before .before .before .before .match .keys11)
 
 returns-12 : tie.Need-returns-12
 unfolding stored
-returns-12 c = rw (c .match .keys12)
+returns-12 c = rw (c .before .before .match .keys12)
 
 returns-13 : tie.Need-returns-13
 unfolding stored
@@ -76,4 +76,4 @@ unfolding stored
 returns-16 c = let r = c .match .rest in rw (ne-eqb _ 0 (r .0 .0 .0 .0 .0 .0 .0 .0 .0 .0 .0 .0 .0 .0 .1), ne-eqb _ 1 (r .0 .0 .0 .0 .0 .0 .0 .0 .0 .0 .0 .0 .0 .1), ne-eqb _ 2 (r .0 .0 .0 .0 .0 .0 .0 .0 .0 .0 .0 .0 .1), ne-eqb _ 3 (r .0 .0 .0 .0 .0 .0 .0 .0 .0 .0 .0 .1), ne-eqb _ 4 (r .0 .0 .0 .0 .0 .0 .0 .0 .0 .0 .1), ne-eqb _ 5 (r .0 .0 .0 .0 .0 .0 .0 .0 .0 .1), ne-eqb _ 6 (r .0 .0 .0 .0 .0 .0 .0 .0 .1), ne-eqb _ 7 (r .0 .0 .0 .0 .0 .0 .0 .1), ne-eqb _ 8 (r .0 .0 .0 .0 .0 .0 .1), ne-eqb _ 9 (r .0 .0 .0 .0 .0 .1), ne-eqb _ 10 (r .0 .0 .0 .0 .1), ne-eqb _ 11 (r .0 .0 .0 .1), ne-eqb _ 12 (r .0 .0 .1), ne-eqb _ 14 (r .0 .1), ne-eqb _ 15 (r .1))
 
 pub stored-spec : {M : Type 1} → statement M
-stored-spec = tie.close (tie.spec (λ c. search needs) (λ c. search needs) (λ c. search needs) (λ c. search needs) (λ c. search needs) (λ c. search needs) (λ c. search needs) (λ c κs. search needs) returns returns-2 returns-3 returns-4 returns-5 returns-6 returns-7 returns-8 returns-9 returns-10 returns-11 returns-12 returns-13 returns-14 returns-15 returns-16)
+stored-spec = tie.close (tie.spec (λ c. search needs) (λ c. search needs) (λ c. search needs) (λ c. search needs) (λ c. search needs) (λ c. search needs) (λ c. search needs) (λ c κs. search needs) (λ c κs. search needs) returns returns-2 returns-3 returns-4 returns-5 returns-6 returns-7 returns-8 returns-9 returns-10 returns-11 returns-12 returns-13 returns-14 returns-15 returns-16)

@@ -1,0 +1,3 @@
+pub mod Shifter
+pub mod Closed
+pub mod Demands
