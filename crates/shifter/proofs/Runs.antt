@@ -54,6 +54,16 @@ by-mark :
 unfolding clocked shifted
 by-mark level h s m l = rw (m, ne-eqb (s .left) 0 (omega arith))
 
+-- two clocks from no mark on are a shift
+pub two-clocks :
+    (level : Bool) (s : Shifter) → byClock (s .mode) ≡ true → 0 < s .left → s .half ≡ false → after 2 (clocked level) s ≡ shifted level s
+unfolding after shifted
+two-clocks level s m l h =
+    ap (λ (b : Bool). clocked level (clocked level (marked b s))) h
+    ∙ ap (clocked level) (by-mark level false s m l)
+    ∙ by-mark level true s m l
+    ∙ ap (λ (b : Bool). marked b (shifted level s)) (sym h)
+
 -- k counts above the clock that makes the last shift: two clocks are a shift, and the mark is set between them
 abbrev fallen : Bool → ℕ → Shifter → Shifter
 fallen level k s = marked (eqb (k % 2) 0) (after (s .left - suc (k / 2)) (shifted level) s)
@@ -183,11 +193,28 @@ flag-due s level k = go (counting s) refl ∙ stood-comes (s .flag) (if counting
     go true e = let h = moved s e in flag-after-is level s (h .0) (h .1) k ∙ rw e
     go false e = ap (λ (u : Shifter). u .flag) (resting level s e k) ∙ rw e
 
--- a clock keeps the mode, and leaves no more shifts to come
+-- CB1 moves it where it rises, in the modes that pulses shift, and nowhere else
+pub on-rise : (level : Bool) (s : Shifter) → byPulse (s .mode) ≡ true → pulsed true level s ≡ shifted level s
+unfolding pulsed
+on-rise level s m = rw m
+
+pub no-rise : (level : Bool) (s : Shifter) → pulsed false level s ≡ s
+unfolding pulsed
+no-rise level s = rw (and-false (byPulse (s .mode)))
+
+pub other-modes : (rise level : Bool) (s : Shifter) → byPulse (s .mode) ≡ false → pulsed rise level s ≡ s
+unfolding pulsed
+other-modes rise level s m = rw m
+
+-- clocks and pulses keep the mode
 pub clock-mode : (level : Bool) (s : Shifter) → clocked level s .mode ≡ s .mode
 unfolding clocked shifted
 clock-mode level s =
     picked (λ (u : Shifter). u .mode ≡ s .mode) (counting s) (picked (λ (u : Shifter). u .mode ≡ s .mode) (s .half) refl refl) refl
+
+pub pulsed-mode : (rise level : Bool) (s : Shifter) → pulsed rise level s .mode ≡ s .mode
+unfolding pulsed shifted
+pulsed-mode rise level s = picked (λ (u : Shifter). u .mode ≡ s .mode) (byPulse (s .mode) && rise) refl refl
 
 -- at most 8 shifts to come stay at most 8
 pub shifted-few : (level : Bool) (s : Shifter) → s .left ≤ 8 → shifted level s .left ≤ 8

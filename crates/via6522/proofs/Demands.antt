@@ -7,21 +7,25 @@ use lib.Dec.{eqb, lit<}
 use Rattle.clocks.specs.Clocks.{if_then_else_}
 use Rattle.clocks.specs.Bits.{bit, withBit, withClear}
 use Rattle.clocks.proofs.Bits.{bit-with, bit-clear}
-use Rattle.calls.specs.declared.Call22.the-variants.{Read}
+use Rattle.calls.specs.declared.Call22.the-variants.{Write, Read, Run}
 use Rattle.chips.specs.Chips.{next}
 use Rattle.chips.proofs.Chips as Chips
 use Rattle.ports.specs.Ports.{linesFor}
 use Rattle.ports.proofs.Demands as Ports
 use Rattle.timers.proofs.Passings.{rounds, idle}
+use Rattle.shifter.specs.Shifter.{accessed}
+use Rattle.shifter.specs.declared.Shifter.{Shifter}
 use Rattle.via6522.specs.Record.{wellFormed, resetOf}
 use Rattle.via6522.specs.Ports.{linesB, shownA, shownB}
-use Rattle.via6522.specs.Clock.{timersOf, withTimers, withShifter}
+use Rattle.via6522.specs.Clock.{timersOf, withTimers, shifterOf, withShifter, levelCB2}
 use Rattle.via6522.specs.Chip.{chip, clocked, lined, flags, readingOf}
 use Rattle.via6522.specs.Demands
+use Rattle.via6522.specs.Demands.{pinsWith, pulse}
 use Rattle.via6522.proofs.Formed.{formed}
 use Rattle.via6522.proofs.Lens.{flag1, each-after}
 use Rattle.via6522.proofs.Lawful.{lawful, ticks}
 use Rattle.via6522.proofs.Watched.{watched}
+use Rattle.via6522.proofs.Shifting.{read-well, write-well, withByte, read-access, write-access, flag-after-access, clocks-turn, levels-turn, pulse-turn, read-begins, write-begins, sent, received}
 
 -- ---- what is asked of every chip
 
@@ -113,3 +117,37 @@ mask-seven r v = go (wellFormed v) refl
     go : (b : Bool) → wellFormed v ≡ b → readingOf r v .cleared < 128
     go true w = omega (arith, formed v w .flags)
     go false w = rw (Chips.kept-clears chip lawful flags (Read r) v (Chips.ill-leaves chip lawful (Read r) v w)) (lit< tt)
+
+-- ---- what request 06 asks
+pub accesses-shift : Demands.Accesses-shift
+unfolding shifterOf
+accesses-shift x v w = (read-access v w, write-access x v w)
+
+pub sends-by-clocks : Demands.Sends-by-clocks
+unfolding shifterOf accessed
+sends-by-clocks x v h w e =
+    sent 6 (λ k. levelCB2) (λ k. next chip (Run 2)) (λ k. clocks-turn 6 refl) _ (write-begins 6 refl v w e x) refl x h
+    (ap (λ (s : Shifter). s .byte) (write-access x v w))
+
+pub sends-by-pulses : Demands.Sends-by-pulses
+unfolding shifterOf accessed
+sends-by-pulses x fall rise v h w e =
+    sent 7 (λ k u. rise k .cb2) (λ k. pulse (fall k) (rise k)) (λ k. pulse-turn 7 refl (fall k) (rise k)) _ (write-begins 7 refl v w e x) refl
+    x h
+    (ap (λ (s : Shifter). s .byte) (write-access x v w))
+
+pub receives-by-clocks : Demands.Receives-by-clocks
+receives-by-clocks cb1 l v w e =
+    received 2 (λ k u. l k .cb2) (λ k u. next chip (Run 2) (next chip (pinsWith (cb1 k) (l k)) u)) (λ k. levels-turn (cb1 k) (l k)) _
+    (read-begins 2 refl v w e) refl
+
+pub receives-by-pulses : Demands.Receives-by-pulses
+receives-by-pulses fall rise v w e =
+    received 3 (λ k u. rise k .cb2) (λ k. pulse (fall k) (rise k)) (λ k. pulse-turn 3 refl (fall k) (rise k)) _ (read-begins 3 refl v w e) refl
+
+pub sixteen-clocks : Demands.Sixteen-clocks
+unfolding shifterOf
+sixteen-clocks x n v h w m = (
+  flag-after-access (shifterOf v) (next chip (Read 10) v) n h (read-well v w) (read-access v w) m,
+  flag-after-access (withByte x (shifterOf v)) (next chip (Write 10 x) v) n h (write-well x v w) (write-access x v w) m,
+)

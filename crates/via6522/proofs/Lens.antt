@@ -6,7 +6,7 @@ use Prim.Native.Nat.{ℕ}
 use native.Mathlib.Omega.{arith}
 use Rattle.clocks.specs.Clocks.{after}
 use Rattle.clocks.specs.Bits.{bit, withBit}
-use Rattle.clocks.proofs.Clocks.{after-agree, Part, Apart, movingBoth, both-after}
+use Rattle.clocks.proofs.Clocks.{after-agree, after-keeps, Part, Apart, movingBoth, both-after}
 use Rattle.clocks.proofs.Bits.{bit-here, bit-other, with-same, with-over, with-swap}
 use Rattle.timers.specs.First as First
 use Rattle.timers.specs.Second as Second
@@ -166,3 +166,13 @@ flag1-after n v = ap (λ (u : Via). bit 6 (u .ifr)) (each-after n v) ∙ flag1 _
 pub flag2-after : (n : ℕ) (v : Via) → bit 5 (after n clockOf v .ifr) ≡ after n Second.clocked (timersOf v .t2) .flag
 unfolding withTimers
 flag2-after n v = ap (λ (u : Via). bit 5 (u .ifr)) (each-after n v) ∙ flag2 _ _ _
+
+-- and the whole shift register
+pub shifter-after : (n : ℕ) (v : Via) → shifterOf (after n clockOf v) ≡ after n (Shift.clocked (levelCB2 v)) (shifterOf v)
+unfolding shifterOf
+shifter-after n v =
+    let s = after n (Shift.clocked (levelCB2 v)) (shifterOf v) in
+    ap shifterOf (parts-after n v)
+    ∙ shifter-past (withShifter s v) (after n Pair.clocked (timersOf v))
+    ∙ shifter-put s v
+    (after-keeps (λ (u : Shifter). u .mode ≡ modeOf (v .acr)) (Shift.clocked (levelCB2 v)) (λ u e. clock-mode (levelCB2 v) u ∙ e) n (shifterOf v) refl)

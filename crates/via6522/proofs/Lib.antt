@@ -4,4 +4,5 @@ pub mod Formed
 pub mod Keeps
 pub mod Lawful
 pub mod Watched
+pub mod Shifting
 pub mod Demands

@@ -1,16 +1,18 @@
 -- What the three demands and the requests ask of the 6522 beyond the promise of each entry. proofs/Demands.antt has a proof of each statement, under its name in small letters.
 use mathlib.Core.Path.{_≡_}
-use mathlib.Core.Bool.{true, false, not, _&&_}
-use Prim.Native.Nat.{ℕ, _+_, _-_, _%_, _<_}
-use lib.Dec.{eqb}
-use Rattle.clocks.specs.Clocks.{if_then_else_, after}
-use Rattle.clocks.specs.Bits.{bit}
-use Rattle.calls.specs.declared.Call22.the-variants.{Read}
+use mathlib.Core.Bool.{Bool, true, false, not, _&&_}
+use Prim.Native.Nat.{ℕ, suc, _+_, _-_, _%_, _<_, _≤_}
+use lib.Dec.{eqb, leb}
+use Rattle.clocks.specs.Clocks.{if_then_else_, after, inTurn}
+use Rattle.clocks.specs.Bits.{bit, withBit}
+use Rattle.calls.specs.declared.Call22.{Call22}
+use Rattle.calls.specs.declared.Call22.the-variants.{Write, Read, Pins, Run}
 use Rattle.chips.specs.Chips
-use Rattle.chips.specs.Chips.{answer}
-use Rattle.via6522.specs.Record.{wellFormed, powerUp, resetOf}
+use Rattle.chips.specs.Chips.{answer, next}
+use Rattle.shifter.specs.Shifter.{byClock, accessed}
+use Rattle.via6522.specs.Record.{modeOf, wellFormed, powerUp, resetOf}
 use Rattle.via6522.specs.Ports.{linesB, shownA, shownB}
-use Rattle.via6522.specs.Clock.{clockOf}
+use Rattle.via6522.specs.Clock.{shifterOf, clockOf}
 use Rattle.via6522.specs.Chip.{chip, clocked, lined, readingOf}
 use Rattle.via6522.specs.declared.Via.{Via}
 
@@ -97,3 +99,79 @@ Refused-clears-none = (r : ℕ) (v : Via) → (readingOf r v .answer .refusal �
 -- bit 7 is in no mask, whatever record is handed in
 abbrev pub Mask-seven : Type 0
 Mask-seven = (r : ℕ) (v : Via) → readingOf r v .cleared < 128
+
+-- ---- request 06: the shift register, by the calls that a bench makes
+
+-- levels outside, but for CB1's
+pub record Levels : Type 0 where
+  pub pa : ℕ
+  pub pb : ℕ
+  pub ca1 : Bool
+  pub ca2 : Bool
+  pub cb2 : Bool
+
+-- the pins call for them, with CB1 at the level that is named
+abbrev pub pinsWith : Bool → Levels → Call22
+pinsWith cb1 l = Pins (l .pa) (l .pb) (withBit 0 (l .ca1) (withBit 1 (l .ca2) (withBit 2 cb1 (withBit 3 (l .cb2) 0))))
+
+-- CB1 falls and rises, in two pins calls; all other levels are free in both
+abbrev pub pulse : Levels → Levels → Via → Via
+pulse fall rise v = next chip (pinsWith true rise) (next chip (pinsWith false fall) v)
+
+-- turn k makes shift k of eight. Outward, each puts a bit of x on CB2, the highest first; the eighth sets IFR2, and a read of SR then
+-- gives x back
+pub record Sent (x : ℕ) (turn : ℕ → Via → Via) (v : Via) : Type 0 where
+  pub bits : (k : ℕ) → k < 8 → inTurn (suc k) turn v .sr .output ≡ bit (7 - k) x
+  pub flag : (k : ℕ) → k ≤ 8 → bit 2 (inTurn k turn v .ifr) ≡ eqb k 8
+  pub byte : answer chip (Read 10) (inTurn 8 turn v) .«data» ≡ x
+
+-- inward, a read of SR after the eighth gives the levels, the first in bit 7
+pub record Received (levels : ℕ → Bool) (turn : ℕ → Via → Via) (v : Via) : Type 0 where
+  pub bits : (k : ℕ) → k < 8 → bit (7 - k) (answer chip (Read 10) (inTurn 8 turn v) .«data») ≡ levels k
+  pub flag : (k : ℕ) → k ≤ 8 → bit 2 (inTurn k turn v .ifr) ≡ eqb k 8
+
+-- mode 6: x is written, and each turn is a run of 2 clocks; mode 7: each turn is a pulse on CB1
+abbrev pub Sends-by-clocks : Type 0
+Sends-by-clocks =
+    (x : ℕ) (v : Via) → x < 256 → wellFormed v ≡ true → modeOf (v .acr) ≡ 6
+    → Sent x (λ k. next chip (Run 2)) (next chip (Write 10 x) v)
+
+abbrev pub Sends-by-pulses : Type 0
+Sends-by-pulses =
+    (x : ℕ) (fall rise : ℕ → Levels) (v : Via) → x < 256 → wellFormed v ≡ true → modeOf (v .acr) ≡ 7
+    → Sent x (λ k. pulse (fall k) (rise k)) (next chip (Write 10 x) v)
+
+-- mode 2: SR is read, and each turn is a pins call, with CB1 at any level, and a run of 2 clocks; mode 3: each turn is a pulse on CB1, and
+-- CB2's level is the one that the rise comes with
+abbrev pub Receives-by-clocks : Type 0
+Receives-by-clocks =
+    (cb1 : ℕ → Bool) (l : ℕ → Levels) (v : Via) → wellFormed v ≡ true → modeOf (v .acr) ≡ 2
+    → Received (λ k. l k .cb2) (λ k u. next chip (Run 2) (next chip (pinsWith (cb1 k) (l k)) u)) (next chip (Read 10) v)
+
+abbrev pub Receives-by-pulses : Type 0
+Receives-by-pulses =
+    (fall rise : ℕ → Levels) (v : Via) → wellFormed v ≡ true → modeOf (v .acr) ≡ 3
+    → Received (λ k. rise k .cb2) (λ k. pulse (fall k) (rise k)) (next chip (Read 10) v)
+
+-- an access to SR is the shift register's own, the byte that is written apart
+abbrev pub Accesses-shift : Type 0
+Accesses-shift =
+    (x : ℕ) (v : Via) → wellFormed v ≡ true
+    → (shifterOf (next chip (Read 10) v) ≡ accessed (shifterOf v))
+    × (shifterOf (next chip (Write 10 x) v)
+    ≡ accessed
+    (record {
+      byte = x;
+      left = v .sr .left;
+      half = v .sr .half;
+      output = v .sr .output;
+      flag = bit 2 (v .ifr);
+      mode = modeOf (v .acr);
+    }))
+
+-- in modes 2 and 6 IFR2 is set at clock 16 after an access and not before, in a run of any length
+abbrev pub Sixteen-clocks : Type 0
+Sixteen-clocks =
+    (x n : ℕ) (v : Via) → n ≤ 4294967295 → wellFormed v ≡ true → byClock (modeOf (v .acr)) ≡ true
+    → (bit 2 (next chip (Run n) (next chip (Read 10) v) .ifr) ≡ leb 16 n)
+    × (bit 2 (next chip (Run n) (next chip (Write 10 x) v) .ifr) ≡ leb 16 n)
