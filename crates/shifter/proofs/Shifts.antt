@@ -16,13 +16,10 @@ use Rattle.shifter.specs.declared.Shifter.{Shifter}
 
 -- ---- how many are to come
 
--- there is one to make, since none stand for 8
-pub some-to-come : (s : Shifter) → 1 ≤ toCome s
-some-to-come s = go (s .left)
-  where
-    go : (n : ℕ) → 1 ≤ (if eqb n 0 then 8 else n)
-    go zero = lit≤ tt
-    go (suc n) = rw (ne-eqb (suc n) 0 (omega arith)) (omega arith)
+-- there is one to make, where none stand for some
+pub some-to-come : (m n : ℕ) → 1 ≤ m → 1 ≤ (if eqb n 0 then m else n)
+some-to-come m zero h = h
+some-to-come m (suc n) h = rw (ne-eqb (suc n) 0 (omega arith)) (omega arith)
 
 -- where some are to come, a shift takes one of them
 one-fewer : (s : Shifter) → 0 < s .left → toCome s - 1 ≡ s .left - 1

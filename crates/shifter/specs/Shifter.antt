@@ -19,6 +19,10 @@ byPulse m = eqb m 3 || eqb m 7
 abbrev pub outward : ℕ → Bool
 outward m = eqb m 6 || eqb m 7
 
+-- 1, 4 and 5, in which T2 would time the shifts, are left out of this bench
+abbrev pub allowedMode : ℕ → Bool
+allowedMode m = not (eqb m 1) && not (eqb m 4) && not (eqb m 5)
+
 -- ---- one shift
 
 -- a mode that shifts out takes its own bit 7, and one that shifts in the level that is offered

@@ -5,7 +5,7 @@ ghost use mathlib.Core.Bool.{Bool};
 ghost use Prim.Native.Nat.{ℕ, _≤_};
 ghost use Rattle.clocks.specs.Clocks.{after};
 ghost use Rattle.clocks.specs.Forecasts.{comes};
-ghost use Rattle.shifter.specs.Shifter.{byClock, byPulse, outward as outwardOf, taken as takenOf, shifted as shiftedOf, marked as markedOf, counting as countingOf, clocked, pulsed as pulsedOf, accessed as accessedOf};
+ghost use Rattle.shifter.specs.Shifter.{byClock, byPulse, outward as outwardOf, allowedMode, taken as takenOf, shifted as shiftedOf, marked as markedOf, counting as countingOf, clocked, pulsed as pulsedOf, accessed as accessedOf};
 ghost use Rattle.shifter.specs.Closed.{begun as begunOf};
 use clocks::Forecast;
 use clocks::bit;
@@ -38,6 +38,13 @@ fn outward(mode: u8) -> bool
     ensures { λ r. ⌜ r ≡ outwardOf mode ⌝ }
 {
     (mode == 6) | (mode == 7)
+}
+
+// Whether T2 does not time the shifts.
+pub fn allowed(mode: u8) -> bool
+    ensures { λ r. ⌜ r ≡ allowedMode mode ⌝ }
+{
+    (mode != 1) & (mode != 4) & (mode != 5)
 }
 
 impl Shifter {
@@ -136,7 +143,8 @@ impl Shifter {
             return Forecast::In(0);
         }
         if self.counting() {
-            Forecast::In(2 * self.left as u32 - self.begun() as u32)
+            let clocks = 2 * self.left as u32 - self.begun() as u32;
+            Forecast::In(clocks)
         } else {
             Forecast::Never
         }

@@ -25,6 +25,7 @@ use Rattle.via6522.proofs.Formed.{formed}
 use Rattle.via6522.proofs.Lens.{flag1, each-after}
 use Rattle.via6522.proofs.Lawful.{lawful, ticks}
 use Rattle.via6522.proofs.Watched.{watched}
+use Rattle.via6522.proofs.Shifting as Shifting
 use Rattle.via6522.proofs.Shifting.{read-well, write-well, withByte, read-access, write-access, flag-after-access, clocks-turn, levels-turn, pulse-turn, read-begins, write-begins, sent, received}
 
 -- ---- what is asked of every chip
@@ -144,6 +145,9 @@ receives-by-clocks cb1 l v w e =
 pub receives-by-pulses : Demands.Receives-by-pulses
 receives-by-pulses fall rise v w e =
     received 3 (λ k u. rise k .cb2) (λ k. pulse (fall k) (rise k)) (λ k. pulse-turn 3 refl (fall k) (rise k)) _ (read-begins 3 refl v w e) refl
+
+pub edges-flag : Demands.Edges-flag
+edges-flag k pa pb control v w h p q = Shifting.edges-flag pa pb control v w h k p q
 
 pub sixteen-clocks : Demands.Sixteen-clocks
 unfolding shifterOf

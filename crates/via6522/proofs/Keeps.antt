@@ -1,7 +1,7 @@
 -- What calls keep of a record: that it is well formed, and the ranges that the types of its timers give.
 use mathlib.Core.Path.{_≡_, refl}
 use mathlib.Core.Bool.{Bool, true, false, not, _&&_, _||_, false≢true}
-use Prim.Native.Nat.{ℕ, suc, _+_, _*_, _/_, _%_, _<_, _≤_, zero-le}
+use Prim.Native.Nat.{ℕ, suc, _+_, _*_, _/_, _%_, _<_, _≤_}
 use native.Mathlib.Omega.{arith}
 use lib.Dec.{eqb, ltb, lit<}
 use borrow.Author.Tests.{ltb-false, not-false}
@@ -69,7 +69,7 @@ write-formed r x v e h =
     few : stored r x (cleared (writeClears r x (v .pcr)) v) .sr .left ≤ 8
     few =
         picked (λ (n : ℕ). n ≤ 8) (eqb r 10) (restarted-few (cleared (writeClears r x (v .pcr)) v) (h .few))
-        (picked (λ (n : ℕ). n ≤ 8) (eqb r 11) zero-le (h .few))
+        (picked (λ (n : ℕ). n ≤ 8) (eqb r 11) (omega (arith, h .few)) (h .few))
 
 pins-formed : (pa pb control : ℕ) (v : Via) → pinsAsks control ≡ 0 → Formed v → Formed (pinsOf pa pb control v)
 unfolding pinsAsks pinsOf settled withShifter shiftPulsed shifterOf
@@ -77,7 +77,7 @@ pins-formed pa pb control v e h =
     let l = ltb-false 15 control (passes (ltb 15 control) 0 4 e .0) in
     record {
       flags =
-          raised-seven (v .pcr) (v .control) control _
+          raised-seven _ _ _ _
           (with-lt 7 2 (shiftPulsed control v .flag) _ (lit< tt) (with-lt 7 5 (pulsed pb v .flag) (v .ifr) (lit< tt) (h .flags)));
       enables = h .enables;
       modes = h .modes;
@@ -110,7 +110,7 @@ leaves-formed Reset v e h =
       codes = refl;
       top = λ q. absurd (false≢true q);
       levels = h .levels;
-      few = zero-le;
+      few = omega (arith, h .few);
     }
 leaves-formed (Write r x) v e h = write-formed r x v e h
 leaves-formed (Read r) v e h =

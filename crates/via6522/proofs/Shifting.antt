@@ -14,6 +14,7 @@ use Rattle.calls.specs.declared.Call22.the-variants.{Write, Read, Pins, Run}
 use Rattle.chips.specs.Chips.{answer, next}
 use Rattle.chips.proofs.Chips as Chips
 use Rattle.flags.specs.Flags.{raised, accessClears, readClears, writeClears}
+use Rattle.flags.specs.Demands.{edgeAt}
 use Rattle.flags.proofs.Demands.{raised-by-bit}
 use Rattle.shifter.specs.Shifter as Shift
 use Rattle.shifter.specs.Shifter.{byClock, byPulse, outward, shifted, pulsed, accessed}
@@ -82,7 +83,29 @@ write-access x v w =
 
 -- ---- pins
 
--- a pins call, accepted: the shift register as a rise of CB1 leaves it, the new levels, and the mode
+-- a pins call with levels of four lines is accepted
+module _ (pa pb control : ℕ) (v : Via) (w : wellFormed v ≡ true) (h : control < 16) where
+  pins-asks : asksOf (Pins pa pb control) v ≡ 0
+  unfolding pinsAsks
+  pins-asks = rw (le-ltb 15 control (omega arith))
+
+  pins-leave : next chip (Pins pa pb control) v ≡ pinsOf pa pb control v
+  pins-leave = leaves (Pins pa pb control) v pins-asks w
+
+  -- flags that neither a pulse moves
+  pub edges-flag :
+      (k : ℕ) → (k ≡ 2 → ⊥) → (k ≡ 5 → ⊥)
+      → bit k (next chip (Pins pa pb control) v .ifr) ≡ (bit k (v .ifr) || edgeAt k (v .pcr) (v .control) control)
+  unfolding pinsOf settled withShifter
+  edges-flag k p q =
+      let t = PinsOf.pulsed pb v .flag in
+      let s = shiftPulsed control v .flag in
+      ap (λ (u : Via). bit k (u .ifr)) pins-leave
+      ∙ raised-by-bit k (v .pcr) (v .control) control (withBit 2 s (withBit 5 t (v .ifr)))
+      ∙ ap (λ (b : Bool). b || edgeAt k (v .pcr) (v .control) control)
+      (bit-other 2 s k (withBit 5 t (v .ifr)) p ∙ bit-other 5 t k (v .ifr) q)
+
+-- with the levels of a bench: the shift register as a rise of CB1 leaves it, the new levels, and the mode
 module _ (cb1 : Bool) (l : Levels) (v : Via) (w : wellFormed v ≡ true) where
   abbrev control : ℕ
   control = withBit 0 (l .ca1) (withBit 1 (l .ca2) (withBit 2 cb1 (withBit 3 (l .cb2) 0)))
@@ -92,19 +115,15 @@ module _ (cb1 : Bool) (l : Levels) (v : Via) (w : wellFormed v ≡ true) where
       with-lt 4 0 (l .ca1) _ (lit< tt)
       (with-lt 4 1 (l .ca2) _ (lit< tt) (with-lt 4 2 cb1 _ (lit< tt) (with-lt 4 3 (l .cb2) 0 (lit< tt) (lit< tt))))
 
-  asks : asksOf (pinsWith cb1 l) v ≡ 0
-  unfolding pinsAsks
-  asks = rw (le-ltb 15 control (omega (arith, within)))
-
-  pins-leave : next chip (pinsWith cb1 l) v ≡ pinsOf (l .pa) (l .pb) control v
-  pins-leave = leaves (pinsWith cb1 l) v asks w
+  levels-leave : next chip (pinsWith cb1 l) v ≡ pinsOf (l .pa) (l .pb) control v
+  levels-leave = pins-leave (l .pa) (l .pb) control v w within
 
   pub pins-well : wellFormed (next chip (pinsWith cb1 l) v) ≡ true
-  pins-well = leaves-well (pinsWith cb1 l) v asks w
+  pins-well = leaves-well (pinsWith cb1 l) v (pins-asks (l .pa) (l .pb) control v w within) w
 
   pub pins-mode : next chip (pinsWith cb1 l) v .acr ≡ v .acr
   unfolding pinsOf settled withShifter
-  pins-mode = ap (λ (u : Via). u .acr) pins-leave
+  pins-mode = ap (λ (u : Via). u .acr) levels-leave
 
   cb1-level : bit 2 control ≡ cb1
   cb1-level =
@@ -119,11 +138,11 @@ module _ (cb1 : Bool) (l : Levels) (v : Via) (w : wellFormed v ≡ true) where
 
   pub pins-cb1 : bit 2 (next chip (pinsWith cb1 l) v .control) ≡ cb1
   unfolding pinsOf settled
-  pins-cb1 = ap (λ (u : Via). bit 2 (u .control)) pins-leave ∙ cb1-level
+  pins-cb1 = ap (λ (u : Via). bit 2 (u .control)) levels-leave ∙ cb1-level
 
   pub pins-cb2 : levelCB2 (next chip (pinsWith cb1 l) v) ≡ l .cb2
   unfolding pinsOf settled
-  pins-cb2 = ap levelCB2 pins-leave ∙ cb2-level
+  pins-cb2 = ap levelCB2 levels-leave ∙ cb2-level
 
   -- the edges of the control lines are none of its own
   flag-past : (x : ℕ) (b : Bool) → bit 2 (raised (v .pcr) (v .control) control (withBit 2 b x)) ≡ b
@@ -136,7 +155,7 @@ module _ (cb1 : Bool) (l : Levels) (v : Via) (w : wellFormed v ≡ true) where
   pins-shift =
       let s = shiftPulsed control v in
       let counted = withBit 5 (PinsOf.pulsed (l .pb) v .flag) (v .ifr) in
-      ap shifterOf pins-leave
+      ap shifterOf levels-leave
       ∙ (λ i. moded (sym (pulsed-mode (not (bit 2 (v .control)) && bit 2 control) (bit 3 control) (shifterOf v)) i) (flagged (flag-past counted (s .flag) i) s))
       ∙ (λ i. pulsed (not (bit 2 (v .control)) && cb1-level i) (cb2-level i) (shifterOf v))
 

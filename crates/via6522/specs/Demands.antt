@@ -1,6 +1,6 @@
 -- What the three demands and the requests ask of the 6522 beyond the promise of each entry. proofs/Demands.antt has a proof of each statement, under its name in small letters.
 use mathlib.Core.Path.{_≡_}
-use mathlib.Core.Bool.{Bool, true, false, not, _&&_}
+use mathlib.Core.Bool.{Bool, true, false, not, _&&_, _||_}
 use Prim.Native.Nat.{ℕ, suc, _+_, _-_, _%_, _<_, _≤_}
 use lib.Dec.{eqb, leb}
 use Rattle.clocks.specs.Clocks.{if_then_else_, after, inTurn}
@@ -9,6 +9,7 @@ use Rattle.calls.specs.declared.Call22.{Call22}
 use Rattle.calls.specs.declared.Call22.the-variants.{Write, Read, Pins, Run}
 use Rattle.chips.specs.Chips
 use Rattle.chips.specs.Chips.{answer, next}
+use Rattle.flags.specs.Demands.{edgeAt}
 use Rattle.shifter.specs.Shifter.{byClock, accessed}
 use Rattle.via6522.specs.Record.{modeOf, wellFormed, powerUp, resetOf}
 use Rattle.via6522.specs.Ports.{linesB, shownA, shownB}
@@ -168,6 +169,12 @@ Accesses-shift =
       flag = bit 2 (v .ifr);
       mode = modeOf (v .acr);
     }))
+
+-- in every shift mode the edges of CA1, CA2, CB1 and CB2 set their flags by PCR alone, and no flag but IFR2 and IFR5 is otherwise touched
+abbrev pub Edges-flag : Type 0
+Edges-flag =
+    (k pa pb control : ℕ) (v : Via) → wellFormed v ≡ true → control < 16 → (k ≡ 2 → ⊥) → (k ≡ 5 → ⊥)
+    → bit k (next chip (Pins pa pb control) v .ifr) ≡ (bit k (v .ifr) || edgeAt k (v .pcr) (v .control) control)
 
 -- in modes 2 and 6 IFR2 is set at clock 16 after an access and not before, in a run of any length
 abbrev pub Sixteen-clocks : Type 0

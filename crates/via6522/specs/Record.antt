@@ -4,6 +4,7 @@ use Prim.Native.Nat.{ℕ, _/_, _%_}
 use lib.Dec.{eqb, ltb, leb}
 use Rattle.ports.specs.Ports.{fresh, silent}
 use Rattle.flags.specs.Flags.{allowedPcr}
+use Rattle.shifter.specs.Shifter.{allowedMode}
 use Rattle.via6522.specs.declared.Count1.{Count1}
 use Rattle.via6522.specs.declared.Count2.{Count2}
 use Rattle.via6522.specs.declared.Serial.{Serial}
@@ -13,9 +14,8 @@ use Rattle.via6522.specs.declared.Via.{Via}
 abbrev pub modeOf : ℕ → ℕ
 modeOf acr = acr / 4 % 8
 
--- modes 1, 4 and 5, in which T2 would time the shifts, are left out of this bench
 abbrev pub allowedAcr : ℕ → Bool
-allowedAcr acr = not (eqb (modeOf acr) 1) && not (eqb (modeOf acr) 4) && not (eqb (modeOf acr) 5)
+allowedAcr acr = allowedMode (modeOf acr)
 
 -- no flag and no enable above the seven, no mode that is left out, the reload mark only where T1 reads 65,535, four control levels, and
 -- at most eight shifts to come

@@ -11,8 +11,7 @@ use clocks::choose8;
 pub(crate) fn allowed_acr(acr: u8) -> bool
     ensures { λ r. ⌜ r ≡ allowedAcr acr ⌝ }
 {
-    let mode = acr / 4 % 8;
-    (mode != 1) & (mode != 4) & (mode != 5)
+    shifter::allowed(acr / 4 % 8)
 }
 
 pub(crate) fn read_asks(register: u8) -> u8

@@ -33,10 +33,10 @@ pub struct Count2 {
 
 // The shift register likewise. `left`: shifts to come. `half`: the half-clock mark. `output`: what it puts on CB2.
 pub struct Serial {
-    pub byte: u8,
-    pub left: u8,
     pub half: bool,
+    pub left: u8,
     pub output: bool,
+    pub byte: u8,
 }
 
 // `kept_a`, `kept_b`: the lines that the flags of CA1 and CB1 kept. `control`: the outside levels of CA1, CA2, CB1 and CB2 in bits 0 to 3.
@@ -46,8 +46,8 @@ pub struct Via {
     pub b: Port,
     pub kept_b: u8,
     pub t1: Count1,
-    pub t2: Count2,
     pub sr: Serial,
+    pub t2: Count2,
     pub acr: u8,
     pub pcr: u8,
     pub ifr: u8,

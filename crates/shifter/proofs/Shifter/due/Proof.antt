@@ -13,8 +13,8 @@ returns : tie.Need-returns
 returns c = λ level k. flag-due (c .before .args .self) level k ∙ rw (c .if1 .taken)
 
 -- one shift at least is two clocks, of which the mark stands for one at most
-sub-t9 : tie.Need-sub-t9
-sub-t9 c =
+sub-clocks : tie.Need-sub-clocks
+sub-clocks c =
     let s = c .before .before .before .before .before .args .self in
     let on : counting s ≡ true = sym (c .before .before .before .counting .ensures) ∙ c .before .before .if2 .taken in
     omega (arith, moved s on .1, c .begun .ensures .1)
@@ -34,4 +34,4 @@ returns-3 c = λ level k.
     flag-due s level k ∙ rw (c .before .before .if1 .left, off)
 
 pub due-spec : {M : Type 1} → statement M
-due-spec = tie.close (tie.spec returns (λ c κs. search needs) (λ c. search needs) (λ c. search needs) (λ c κs. search needs) (λ c. search needs) sub-t9 returns-2 returns-3)
+due-spec = tie.close (tie.spec returns (λ c κs. search needs) (λ c. search needs) (λ c. search needs) (λ c κs. search needs) (λ c. search needs) sub-clocks returns-2 returns-3)

@@ -1,5 +1,6 @@
 use borrow.Author.Needs.{needs}
 use borrow.Author.Tests.{ne-eqb}
+use native.Mathlib.Omega.{arith}
 use mathlib.Core.Path.{_≡_, ap, sym}
 use Prim.Native.Nat.{ℕ}
 use Rattle.via6522.specs.Access.{stored}
@@ -10,6 +11,13 @@ use Rattle.via6522.proofs.Via.stored.Tie as tie
 -- the record that a write to a known register stores
 at : (r k x : ℕ) (v : Via) → r ≡ k → stored k x v ≡ stored r x v
 at r k x v e = ap (λ (n : ℕ). stored n x v) (sym e)
+
+-- T2's low latch is a byte; the search does not go so deep into the record
+cast-counter : tie.Need-cast-counter
+cast-counter c = omega (arith, c .struct-known3 .given .1 .1 .1 .1 .1 .1 .0 .1 .0)
+
+add-counter : tie.Need-add-counter
+add-counter c = omega (arith, c .struct-known3 .given .1 .1 .1 .1 .1 .1 .0 .1 .0)
 
 returns : tie.Need-returns
 unfolding stored
@@ -76,4 +84,4 @@ unfolding stored
 returns-16 c = let r = c .match .rest in rw (ne-eqb _ 0 (r .0 .0 .0 .0 .0 .0 .0 .0 .0 .0 .0 .0 .0 .0 .1), ne-eqb _ 1 (r .0 .0 .0 .0 .0 .0 .0 .0 .0 .0 .0 .0 .0 .1), ne-eqb _ 2 (r .0 .0 .0 .0 .0 .0 .0 .0 .0 .0 .0 .0 .1), ne-eqb _ 3 (r .0 .0 .0 .0 .0 .0 .0 .0 .0 .0 .0 .1), ne-eqb _ 4 (r .0 .0 .0 .0 .0 .0 .0 .0 .0 .0 .1), ne-eqb _ 5 (r .0 .0 .0 .0 .0 .0 .0 .0 .0 .1), ne-eqb _ 6 (r .0 .0 .0 .0 .0 .0 .0 .0 .1), ne-eqb _ 7 (r .0 .0 .0 .0 .0 .0 .0 .1), ne-eqb _ 8 (r .0 .0 .0 .0 .0 .0 .1), ne-eqb _ 9 (r .0 .0 .0 .0 .0 .1), ne-eqb _ 10 (r .0 .0 .0 .0 .1), ne-eqb _ 11 (r .0 .0 .0 .1), ne-eqb _ 12 (r .0 .0 .1), ne-eqb _ 14 (r .0 .1), ne-eqb _ 15 (r .1))
 
 pub stored-spec : {M : Type 1} → statement M
-stored-spec = tie.close (tie.spec (λ c. search needs) (λ c. search needs) (λ c. search needs) (λ c. search needs) (λ c. search needs) (λ c. search needs) (λ c. search needs) (λ c κs. search needs) (λ c κs. search needs) returns returns-2 returns-3 returns-4 returns-5 returns-6 returns-7 returns-8 returns-9 returns-10 returns-11 returns-12 returns-13 returns-14 returns-15 returns-16)
+stored-spec = tie.close (tie.spec (λ c. search needs) (λ c. search needs) (λ c. search needs) (λ c. search needs) (λ c. search needs) cast-counter add-counter (λ c κs. search needs) (λ c κs. search needs) returns returns-2 returns-3 returns-4 returns-5 returns-6 returns-7 returns-8 returns-9 returns-10 returns-11 returns-12 returns-13 returns-14 returns-15 returns-16)
