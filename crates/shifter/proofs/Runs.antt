@@ -5,10 +5,9 @@ use Prim.Native.Nat.{ℕ, zero, suc, _+_, _-_, _*_, _/_, _%_, _<_, _≤_, zero-l
 use native.Mathlib.Decide.{decLt}
 use native.Mathlib.Omega.{arith}
 use lib.Dec.{eqb, lit≤}
-use borrow.Author.Tests.{eq-eqb, ne-eqb, eqb-true}
+use borrow.Author.Tests.{eq-eqb, ne-eqb}
 use Rattle.clocks.specs.Clocks.{if_then_else_, after}
 use Rattle.clocks.specs.Forecasts.{comes}
-use Rattle.clocks.specs.declared.Forecast.{Forecast}
 use Rattle.clocks.specs.declared.Forecast.the-variants.{Never, In}
 use Rattle.clocks.proofs.Clocks.{turns-alike, after-still}
 use Rattle.clocks.proofs.Tests.{both, on-false, picked}

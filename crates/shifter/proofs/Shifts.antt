@@ -4,7 +4,7 @@ use mathlib.Core.Bool.{Bool, true, _||_}
 use Prim.Native.Nat.{ℕ, zero, suc, _+_, _-_, _*_, _/_, _%_, _<_, _≤_}
 use native.Mathlib.Nat.{add-zero, zero-add, add-suc}
 use native.Mathlib.Omega.{arith}
-use lib.Dec.{eqb, lit≤}
+use lib.Dec.{eqb}
 use borrow.Author.Tests.{eq-eqb, ne-eqb}
 use Rattle.clocks.specs.Clocks.{if_then_else_, inTurn}
 use Rattle.clocks.specs.Bits.{bit}

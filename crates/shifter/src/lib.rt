@@ -40,7 +40,7 @@ fn outward(mode: u8) -> bool
     (mode == 6) | (mode == 7)
 }
 
-// Whether T2 does not time the shifts.
+// Whether the bench has the mode; not those in which T2 would time the shifts.
 pub fn allowed(mode: u8) -> bool
     ensures { λ r. ⌜ r ≡ allowedMode mode ⌝ }
 {

@@ -1,7 +1,7 @@
 -- T2 is a counter that passes zero, where clocks count: n of its clocks, and when its flag is set.
 use mathlib.Core.Path.{_≡_, refl, ap, _∙_}
 use mathlib.Core.Bool.{Bool, true, false, not, _||_, _&&_, and-true, and-false}
-use Prim.Native.Nat.{ℕ, zero, suc, _+_, _-_, _%_, _<_, _≤_}
+use Prim.Native.Nat.{ℕ, suc, _+_, _-_, _%_, _<_, _≤_}
 use native.Mathlib.Omega.{arith}
 use lib.Dec.{eqb, eqb·suc-zero, lit<}
 use Rattle.clocks.specs.Clocks.{if_then_else_, after}

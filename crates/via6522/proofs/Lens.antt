@@ -23,6 +23,8 @@ use Rattle.via6522.specs.Flags.{withIfr}
 use Rattle.via6522.specs.Clock.{timersOf, withTimers, shifterOf, withShifter, levelCB2, clockOf}
 use Rattle.via6522.specs.declared.Via.{Via}
 
+-- ---- the timer pair
+
 -- IFR with T1's flag a and T2's flag b
 abbrev pub flags : Bool → Bool → ℕ → ℕ
 flags a b x = withBit 6 a (withBit 5 b x)
@@ -42,8 +44,8 @@ flags-over a b c d x =
     ∙ with-over 6 a c (withBit 5 b (withBit 5 d x))
     ∙ ap (withBit 6 a) (with-over 5 b d x)
 
-put : Via → Timers → Via
-put v p = withTimers p v
+putTimers : Via → Timers → Via
+putTimers v p = withTimers p v
 
 -- the pair p with other flags and modes
 abbrev pair : Timers → Bool → Bool → Bool → Bool → Timers
@@ -63,20 +65,20 @@ pair p a free b pulse =
     }
 
 -- what is put in is taken out, where the modes are the record's
-get-put :
+timers-put :
     (p : Timers) (v : Via) → p .t1 .free ≡ bit 6 (v .acr) → p .t2 .pulse ≡ bit 5 (v .acr) → timersOf (withTimers p v) ≡ p
 unfolding timersOf withTimers
-get-put p v f m =
+timers-put p v f m =
     λ i. pair p (flag1 (p .t1 .flag) (p .t2 .flag) (v .ifr) i) (sym f i) (flag2 (p .t1 .flag) (p .t2 .flag) (v .ifr) i) (sym m i)
 
-timers-part : Part Pair.clocked timersOf put
-unfolding timersOf withTimers put
+timers-part : Part Pair.clocked timersOf putTimers
+unfolding timersOf withTimers putTimers
 timers-part =
     record {
       put-get = λ v. ap (λ (x : ℕ). withIfr x v) (flags-same (v .ifr));
       put-put = λ v p q.
           ap (λ (x : ℕ). withIfr x (withTimers q v)) (flags-over (q .t1 .flag) (q .t2 .flag) (p .t1 .flag) (p .t2 .flag) (v .ifr));
-      get-put = λ v. get-put (Pair.clocked (timersOf v)) v (keeps-free (timersOf v .t1)) (keeps-mode (timersOf v .t2));
+      get-put = λ v. timers-put (Pair.clocked (timersOf v)) v (keeps-free (timersOf v .t1)) (keeps-mode (timersOf v .t2));
     }
 
 -- ---- the shift register
@@ -121,8 +123,8 @@ shifter-past v p = λ i. shifter (shifterOf v) (low i) (modeOf (v .acr))
         bit-other 6 (p .t1 .flag) 2 (withBit 5 (p .t2 .flag) (v .ifr)) (λ e. omega (arith, e))
         ∙ bit-other 5 (p .t2 .flag) 2 (v .ifr) (λ e. omega (arith, e))
 
-apart : (level : Bool) → Apart Pair.clocked timersOf put (Shift.clocked level) shifterOf putShifter
-unfolding withTimers withShifter put putShifter
+apart : (level : Bool) → Apart Pair.clocked timersOf putTimers (Shift.clocked level) shifterOf putShifter
+unfolding withTimers withShifter putTimers putShifter
 apart level =
     record {
       first = timers-part;
@@ -140,13 +142,13 @@ pub parts-after :
     (n : ℕ) (v : Via)
     → after n clockOf v
     ≡ withTimers (after n Pair.clocked (timersOf v)) (withShifter (after n (Shift.clocked (levelCB2 v)) (shifterOf v)) v)
-unfolding clockOf withTimers withShifter put putShifter
+unfolding clockOf withTimers withShifter putTimers putShifter
 parts-after n v =
     after-agree (λ u. levelCB2 u ≡ levelCB2 v) clockOf
-    (movingBoth Pair.clocked timersOf put (Shift.clocked (levelCB2 v)) shifterOf putShifter)
+    (movingBoth Pair.clocked timersOf putTimers (Shift.clocked (levelCB2 v)) shifterOf putShifter)
     (λ u e. ap (λ (b : Bool). withTimers (Pair.clocked (timersOf u)) (withShifter (Shift.clocked b (shifterOf u)) u)) e)
     (λ u e. e) n v refl
-    ∙ both-after Pair.clocked timersOf put (Shift.clocked (levelCB2 v)) shifterOf putShifter (apart (levelCB2 v)) n v
+    ∙ both-after Pair.clocked timersOf putTimers (Shift.clocked (levelCB2 v)) shifterOf putShifter (apart (levelCB2 v)) n v
 
 -- and n of each timer
 pub each-after :

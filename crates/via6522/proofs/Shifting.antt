@@ -8,7 +8,6 @@ use borrow.Author.Tests.{le-ltb}
 use Rattle.clocks.specs.Clocks.{after, inTurn}
 use Rattle.clocks.specs.Bits.{bit, withBit, withClear}
 use Rattle.clocks.proofs.Bits.{bit-here, bit-other, bit-clear, bit-power, with-lt}
-use Rattle.clocks.proofs.Tests.{picked}
 use Rattle.calls.specs.declared.Call22.{Call22}
 use Rattle.calls.specs.declared.Call22.the-variants.{Write, Read, Pins, Run}
 use Rattle.chips.specs.Chips.{answer, next}
@@ -34,7 +33,7 @@ use Rattle.via6522.specs.declared.Via.{Via}
 use Rattle.via6522.specs.declared.Answer.{Answer}
 use Rattle.via6522.proofs.Formed.{formed, well}
 use Rattle.via6522.proofs.Keeps.{leaves-formed}
-use Rattle.via6522.proofs.Lens.{parts-after, shifter-after}
+use Rattle.via6522.proofs.Lens.{shifter-after}
 use Rattle.via6522.proofs.Lawful.{lawful, ticks}
 
 -- what an accepted call leaves

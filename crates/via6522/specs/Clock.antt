@@ -6,6 +6,7 @@ use Rattle.timers.specs.declared.Timers.{Timers}
 use Rattle.shifter.specs.Shifter as Shift
 use Rattle.shifter.specs.declared.Shifter.{Shifter}
 use Rattle.via6522.specs.Record.{modeOf}
+use Rattle.via6522.specs.Flags.{withIfr, withSr}
 use Rattle.via6522.specs.declared.Serial.{Serial}
 use Rattle.via6522.specs.declared.Via.{Via}
 
@@ -74,23 +75,9 @@ shifterOf v =
 abbrev pub serialOf : Shifter → Serial
 serialOf s = record { byte = s .byte; left = s .left; half = s .half; output = s .output }
 
--- the chip with another shift register
+-- the chip with another shift register; the mode is ACR's and stays
 unfoldable pub withShifter : Shifter → Via → Via
-withShifter s v =
-    record {
-      a = v .a;
-      «kept_a» = v .«kept_a»;
-      b = v .b;
-      «kept_b» = v .«kept_b»;
-      t1 = v .t1;
-      t2 = v .t2;
-      sr = serialOf s;
-      acr = v .acr;
-      pcr = v .pcr;
-      ifr = withBit 2 (s .flag) (v .ifr);
-      ier = v .ier;
-      control = v .control;
-    }
+withShifter s v = withIfr (withBit 2 (s .flag) (v .ifr)) (withSr (serialOf s) v)
 
 -- the level outside that an input shift takes
 abbrev pub levelCB2 : Via → Bool

@@ -4,7 +4,7 @@ use lib.Dec.{eqb}
 use mathlib.Core.Path.{_≡_, _∙_, ap, sym}
 use mathlib.Core.Bool.{true, false}
 use native.Mathlib.Omega.{arith}
-use Prim.Native.Nat.{ℕ, _+_, _/_, _%_}
+use Prim.Native.Nat.{_+_, _/_, _%_}
 use Rattle.clocks.specs.Clocks.{after}
 use Rattle.shifter.specs.Shifter.{shifted, marked, counting}
 use Rattle.shifter.proofs.Runs.{moved, resting, ran-short, ran-past}
