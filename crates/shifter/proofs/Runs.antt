@@ -53,6 +53,14 @@ by-mark :
 unfolding clocked shifted
 by-mark level h s m l = rw (m, ne-eqb (s .left) 0 (omega arith))
 
+pub second-clock : (level : Bool) (s : Shifter) → counting s ≡ true → s .half ≡ true → clocked level s ≡ marked false (shifted level s)
+unfolding clocked
+second-clock level s c h = rw (c, h)
+
+pub first-clock : (level : Bool) (s : Shifter) → counting s ≡ true → s .half ≡ false → clocked level s ≡ marked true s
+unfolding clocked
+first-clock level s c h = rw (c, h)
+
 -- two clocks from no mark on are a shift
 pub two-clocks :
     (level : Bool) (s : Shifter) → byClock (s .mode) ≡ true → 0 < s .left → s .half ≡ false → after 2 (clocked level) s ≡ shifted level s

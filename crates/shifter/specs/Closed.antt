@@ -11,7 +11,7 @@ use Rattle.shifter.specs.declared.Shifter.{Shifter}
 abbrev pub begun : Bool → ℕ
 begun half = if half then 1 else 0
 
--- the clocks to come until no shift is
+-- the clocks up to the last shift
 abbrev pub clocksOf : Shifter → ℕ
 clocksOf s = 2 * s .left - begun (s .half)
 

@@ -41,7 +41,7 @@ shifted level s =
       byte = withBit 0 (taken level s) (s .byte % 128 * 2);
       left = toCome s - 1;
       half = s .half;
-      output = taken (s .output) s;
+      output = if outward (s .mode) then bit 7 (s .byte) else s .output;
       flag = eqb (toCome s - 1) 0 || s .flag;
       mode = s .mode;
     }
@@ -57,11 +57,11 @@ marked half s =
 abbrev pub counting : Shifter → Bool
 counting s = byClock (s .mode) && not (eqb (s .left) 0)
 
--- then a first clock sets the mark, and a second clears it and shifts; `level` is that of CB2
+-- then a first clock sets the mark, and a second clears it and shifts; `level` is CB2's outside
 unfoldable pub clocked : Bool → Shifter → Shifter
 clocked level s = if counting s then (if s .half then marked false (shifted level s) else marked true s) else s
 
--- a rise of CB1 shifts in modes 3 and 7; `level` is that of CB2 after it
+-- a rise of CB1 shifts in modes 3 and 7; `level` is CB2's outside, after the call
 unfoldable pub pulsed : Bool → Bool → Shifter → Shifter
 pulsed rise level s = if byPulse (s .mode) && rise then shifted level s else s
 

@@ -40,7 +40,7 @@ fn outward(mode: u8) -> bool
     (mode == 6) | (mode == 7)
 }
 
-// Whether the bench has the mode; not those in which T2 would time the shifts.
+// False for the modes in which T2 would time the shifts: they are not built.
 pub fn allowed(mode: u8) -> bool
     ensures { λ r. ⌜ r ≡ allowedMode mode ⌝ }
 {
@@ -113,7 +113,8 @@ impl Shifter {
         if !self.counting() {
             return self;
         }
-        if self.half {
+        let second = self.half;
+        if second {
             self.shifted(level).marked(false)
         } else {
             self.marked(true)

@@ -1,4 +1,4 @@
-// README's two examples, line by line as they stand there. The program writes what their comments say of the answers;
+// README's three examples, line by line as they stand there. The program writes what their comments say of the answers;
 // tests/readme holds both against README.md.
 use clocks::Forecast;
 use libc::STDOUT_FILENO;
@@ -68,7 +68,22 @@ fn one_shot() {
     say_line(b"shown.irq", shown.irq);
 }
 
+fn sender() {
+    let via = via6522::Via::power_up();
+    let outward = via.write(11, 0x18); // ACR: shift mode 6, out by the clock
+    let written = outward.via.write(10, 0xA5); // SR: eight shifts to come, two clocks each
+    let begun = written.via.run(2);
+    let serial = begun.via.sr; // serial.output is true: CB2 has bit 7
+    let done = written.via.run(16);
+    let read = done.via.read(10); // read.cleared is 0x04: the eighth shift had set IFR2
+    let shown = read.answer; // shown.data is 0xA5: the byte has come round
+    say_line(b"serial.output", serial.output);
+    say_byte(b"read.cleared", read.cleared);
+    say_byte(b"shown.data", shown.data);
+}
+
 fn main() {
     interval();
     one_shot();
+    sender();
 }

@@ -91,7 +91,7 @@ module _ (pa pb control : ℕ) (v : Via) (w : wellFormed v ≡ true) (h : contro
   pins-leave : next chip (Pins pa pb control) v ≡ pinsOf pa pb control v
   pins-leave = leaves (Pins pa pb control) v pins-asks w
 
-  -- flags that neither a pulse moves
+  -- flags that neither pulse moves
   pub edges-flag :
       (k : ℕ) → (k ≡ 2 → ⊥) → (k ≡ 5 → ⊥)
       → bit k (next chip (Pins pa pb control) v .ifr) ≡ (bit k (v .ifr) || edgeAt k (v .pcr) (v .control) control)
@@ -143,7 +143,7 @@ module _ (cb1 : Bool) (l : Levels) (v : Via) (w : wellFormed v ≡ true) where
   unfolding pinsOf settled
   pins-cb2 = ap levelCB2 levels-leave ∙ cb2-level
 
-  -- the edges of the control lines are none of its own
+  -- no edge of a control line sets IFR2
   flag-past : (x : ℕ) (b : Bool) → bit 2 (raised (v .pcr) (v .control) control (withBit 2 b x)) ≡ b
   flag-past x b =
       raised-by-bit 2 (v .pcr) (v .control) control (withBit 2 b x) ∙ or-false (bit 2 (withBit 2 b x)) ∙ bit-here 2 b x

@@ -1,4 +1,4 @@
--- The sixteen registers: what is refused, what a read gives, and what a write stores. Flags are cleared by the rules of `flags`.
+-- The sixteen registers: what is refused, what a read gives and leaves, and what a write stores. Flags are cleared by the rules of `flags`.
 use mathlib.Core.Bool.{true, false, not, _&&_, _||_}
 use Prim.Native.Nat.{ℕ, _+_, _*_, _/_, _%_}
 use lib.Dec.{eqb, ltb}
@@ -16,6 +16,10 @@ use Rattle.via6522.specs.declared.Via.{Via}
 -- what an access leaves of the shift register
 unfoldable pub restarted : Via → Serial
 restarted v = serialOf (accessed (shifterOf v))
+
+-- with the byte of a write
+abbrev pub written : ℕ → Serial → Serial
+written x s = record { byte = x; left = s .left; half = s .half; output = s .output }
 
 -- ---- reads
 
@@ -64,7 +68,7 @@ abbrev pub highHalf : ℕ → ℕ → ℕ
 highHalf x latch = x * 256 + latch % 256
 
 -- what a write stores. A write of T1's high counter byte loads and arms it, with its level low; one of T2's loads and arms that. A write of
--- SR is an access to the shift register besides, and one of ACR, of the same mode too, stops its shifts
+-- SR is an access to the shift register besides. Any write of ACR, of the value that it had too, clears shifts to come and mark
 unfoldable pub stored : ℕ → ℕ → Via → Via
 stored r x v =
     record {

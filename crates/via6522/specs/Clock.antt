@@ -71,7 +71,7 @@ shifterOf v =
       mode = modeOf (v .acr);
     }
 
--- what the record has of it beside flag and mode
+-- what the record has of it; flag and mode are in IFR and ACR
 abbrev pub serialOf : Shifter → Serial
 serialOf s = record { byte = s .byte; left = s .left; half = s .half; output = s .output }
 

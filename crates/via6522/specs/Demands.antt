@@ -154,7 +154,7 @@ Receives-by-pulses =
     (fall rise : ℕ → Levels) (v : Via) → wellFormed v ≡ true → modeOf (v .acr) ≡ 3
     → Received (λ k. rise k .cb2) (λ k. pulse (fall k) (rise k)) (next chip (Read 10) v)
 
--- an access to SR is the shift register's own, the byte that is written apart
+-- a read of SR does to the shift register what an access does; so does a write, which stores its byte too
 abbrev pub Accesses-shift : Type 0
 Accesses-shift =
     (x : ℕ) (v : Via) → wellFormed v ≡ true

@@ -27,7 +27,7 @@ withIfr x v =
       control = v .control;
     }
 
--- the record with another shift register, the flag apart
+-- the record with another shift register; its flag stays
 abbrev pub withSr : Serial → Via → Via
 withSr s v =
     record {

@@ -59,7 +59,8 @@ resetOf v =
       control = v .control;
     }
 
--- at power-up counters and latches are all ones, every level outside is high, nothing is kept, and the rest is as after a reset
+-- at power-up counters and latches are all ones, every level outside is high, SR's byte is 0, nothing is kept, and the rest is as after a
+-- reset
 abbrev pub powerUp : Via
 powerUp =
     record {

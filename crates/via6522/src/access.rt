@@ -1,9 +1,9 @@
-// The sixteen registers: which accesses are refused, the byte of each, and what a write to each stores.
+// The sixteen registers: which accesses are refused, the byte of each, and what a read and a write leave.
 ghost use mathlib.Core.Path.{_≡_};
 ghost use lib.Dec.{eqb};
 ghost use Rattle.clocks.specs.Clocks.{if_then_else_};
 ghost use Rattle.via6522.specs.Record.{allowedAcr};
-ghost use Rattle.via6522.specs.Access.{restarted as restartedOf, dataOf, stored as storedOf, readAsks, writeAsks};
+ghost use Rattle.via6522.specs.Access.{restarted as restartedOf, written, dataOf, stored as storedOf, readAsks, writeAsks};
 use crate::Serial;
 use crate::Via;
 use clocks::choose8;
@@ -36,7 +36,15 @@ impl Via {
         crate::clock::serial(self.shifter().accessed())
     }
 
-    // What a read leaves of it.
+    fn sr_written(self, value: u8) -> Serial
+        ensures { λ r. ⌜ r ≡ written value (restartedOf self) ⌝ }
+    {
+        let mut sr = self.restarted();
+        sr.byte = value;
+        sr
+    }
+
+    // What a read leaves of the shift register.
     pub(crate) fn sr_after(self, register: u8) -> Serial
         ensures { λ r. ⌜ r ≡ (if eqb register 10 then restartedOf self else self .sr) ⌝ }
     {
@@ -97,10 +105,8 @@ impl Via {
                 self.t2.armed = true;
             }
             10 => {
-                let sr = self.restarted();
-                self.sr.byte = value;
-                self.sr.left = sr.left;
-                self.sr.half = sr.half;
+                let sr = self.sr_written(value);
+                self.sr = sr;
             }
             11 => {
                 self.acr = value;

@@ -3,7 +3,9 @@ use borrow.Author.Tests.{ne-eqb}
 use native.Mathlib.Omega.{arith}
 use mathlib.Core.Path.{_≡_, ap, sym}
 use Prim.Native.Nat.{ℕ}
-use Rattle.via6522.specs.Access.{stored}
+use Rattle.shifter.specs.Shifter.{accessed}
+use Rattle.via6522.specs.Clock.{shifterOf}
+use Rattle.via6522.specs.Access.{restarted, stored}
 use Rattle.via6522.specs.declared.Via.{Via}
 use Rattle.via6522.proofs.Via.stored.Statement.{statement}
 use Rattle.via6522.proofs.Via.stored.Tie as tie
@@ -60,8 +62,8 @@ unfolding stored
 returns-10 c = rw (c .before .before .before .match .keys10)
 
 returns-11 : tie.Need-returns-11
-unfolding stored
-returns-11 c = rw (c .before .before .before .restarted .ensures, c .before .before .before .before .match .keys11)
+unfolding stored restarted accessed shifterOf
+returns-11 c = rw (c .sr-written .ensures, c .before .match .keys11)
 
 returns-12 : tie.Need-returns-12
 unfolding stored
