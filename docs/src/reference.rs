@@ -381,22 +381,8 @@ impl Chip6522 {
         self.outside_b = b;
         self.outside_control = control;
 
-        // CA1 and CB1 have one mode bit; doubled, it means what the same code
-        // means for CA2, so one function judges all four.
-        let mut met = 0;
-        if edge_met(2 * (self.pcr & 1), control::CA1, fell, rose) {
-            met |= flag::CA1;
-        }
-        if edge_met(self.ca2_code(), control::CA2, fell, rose) {
-            met |= flag::CA2;
-        }
-        if edge_met(2 * ((self.pcr >> 4) & 1), control::CB1, fell, rose) {
-            met |= flag::CB1;
-        }
-        if edge_met(self.cb2_code(), control::CB2, fell, rose) {
-            met |= flag::CB2;
-        }
         // A flag that already stood must not overwrite what it kept.
+        let met = self.edges_met(fell, rose);
         let raised = met & !self.ifr;
         self.ifr |= met;
         if raised & flag::CA1 != 0 {
@@ -412,6 +398,26 @@ impl Chip6522 {
             self.shift_by_cb1();
         }
         Ok(())
+    }
+
+    /// The flags of the control lines whose edge PCR asks for was made. CA1 and
+    /// CB1 have one mode bit; doubled, it means what the same code means for
+    /// CA2, so one function judges all four.
+    fn edges_met(&self, fell: u8, rose: u8) -> u8 {
+        let mut met = 0;
+        if edge_met(2 * (self.pcr & 1), control::CA1, fell, rose) {
+            met |= flag::CA1;
+        }
+        if edge_met(self.ca2_code(), control::CA2, fell, rose) {
+            met |= flag::CA2;
+        }
+        if edge_met(2 * ((self.pcr >> 4) & 1), control::CB1, fell, rose) {
+            met |= flag::CB1;
+        }
+        if edge_met(self.cb2_code(), control::CB2, fell, rose) {
+            met |= flag::CB2;
+        }
+        met
     }
 
     /// CB1's pulses need no access before them: with none to come the next
@@ -572,7 +578,7 @@ impl Chip6522 {
         }
     }
 
-    /// Goes on to where `left` clocks are left until the last shift; 0 is past it.
+    /// Goes on to where `left` clocks are left until the last shift; 0 once it is made.
     fn run_sr(&mut self, left: u32) {
         let to_come = left.div_ceil(2) as u8;
         let done = self.shifts_to_come - to_come;

@@ -276,7 +276,7 @@ class Story22(Story):
         return rng.randrange(2) | rng.choice(codes) << 1 | rng.randrange(2) << 4 | rng.choice(codes) << 5
 
     def look(self):
-        """A read that shows much and changes nothing (SR's does, in a shift mode), or a forecast."""
+        """A read that shows much and changes nothing but for one of SR, or a forecast."""
         return self.shown(draw(self.rng, (
             (30, None), (25, 13), (8, 5), (4, 6), (4, 7), (8, 9), (6, 15), (2, 11), (2, 12), (3, 14), (2, 10), (2, 2),
             (2, 3),

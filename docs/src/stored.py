@@ -531,7 +531,7 @@ SERIAL_MOVES = (0, 0, 1, 0, 2, 0, 3, 1, 1, 2, 1, 3, 2, 2, 3, 3, 0)
 
 
 def via_shift_pulses():
-    """Modes 3 and 7: each rising CB1 shifts, and no clock does; the eighth sets the flag."""
+    """Modes 3 and 7: SR shifts when CB1 rises and at no clock; the eighth rise sets the flag."""
     # In every mode each move of the two lines, with what it flags and what it does to SR.
     for mode, pcr in ((IN_PULSE, 0x00), (IN_PULSE, 0x50), (OUT_PULSE, 0x10), (OUT_PULSE, 0x40), (OFF, 0x10),
                       (IN_CLOCK, 0x50), (OUT_CLOCK, 0x10)):
@@ -615,7 +615,7 @@ def via_shift_accesses():
     levels = [pins(VIA, 0, 0, 0), pins(VIA, 0, 0, 0x10), pins(VIA, 0xFF, 0xFF, 0x0F)]
     for call in (*others, *levels):
         yield from (write(VIA, SR, 0x97), run(VIA, 3), call, write(VIA, IFR, 0x7B), forecast(VIA), run(VIA, 13), read(VIA, SR))
-    # The same for a byte by pulses: all of them after its sixth. The levels end in the seventh.
+    # The same for a byte by pulses: all these calls after the sixth pulse. The last of the levels is the seventh.
     for mode in BY_PULSE:
         yield from (*clean_shift(mode), write(VIA, SR, 0x97), *pulses(1, 0, 1, 1, 0, 1), *others, *levels, read(VIA, IFR),
                     *pulses(0), *reads(VIA, IFR, SR))
@@ -881,7 +881,7 @@ def forecasts_kept():
 def longest_runs():
     """T1 in both modes, T2, a byte in and one out, and a 6532 timer, each over 4,294,967,295 clocks; the 6545 has its own
     limit."""
-    # The byte that goes out is at an odd clock, so that the run and the clock before it are more than any number of clocks.
+    # The byte that goes out has its mark set, so that the run and the clock before it come to more than 32 bits hold.
     for acr, mode, before in ((0x80, IN_CLOCK, 0), (0xC0, OUT_CLOCK, 3)):
         yield from (*clean_shift(mode, others=acr, enables=0x7F), serial(1, 0), write(VIA, IFR, 0x7F), write(VIA, SR, 0xE4),
                     run(VIA, before), *load_t1(0x5BA7), *load_t2(0x2211), run(VIA, LONGEST),
