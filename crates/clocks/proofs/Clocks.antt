@@ -27,12 +27,6 @@ unfolding inTurn
 turns-keep P f h zero x p = p
 turns-keep P f h (suc n) x p = h n (inTurn n f x) (turns-keep P f h n x p)
 
--- the same rule each time
-pub turns-alike : {A : Type 0} (n : ℕ) (f : A → A) (x : A) → after n f x ≡ inTurn n (λ k. f) x
-unfolding after inTurn
-turns-alike zero f x = refl
-turns-alike (suc n) f x = ap f (turns-alike n f x)
-
 -- a rule that leaves x leaves it for good
 pub after-still : {A : Type 0} (f : A → A) (x : A) → f x ≡ x → (n : ℕ) → after n f x ≡ x
 unfolding after

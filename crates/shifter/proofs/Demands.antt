@@ -12,9 +12,8 @@ use Rattle.clocks.proofs.Bits.{same-bits}
 use Rattle.clocks.proofs.Clocks.{turns-keep}
 use Rattle.clocks.proofs.Forecasts.{comes-one}
 use Rattle.clocks.proofs.Tests.{on-true, on-false}
-use Rattle.shifter.specs.Shifter.{outward, taken, shifted, accessed}
+use Rattle.shifter.specs.Shifter.{outward, taken, shifted, shifts, accessed}
 use Rattle.shifter.specs.Demands
-use Rattle.shifter.specs.Demands.{shifts}
 use Rattle.shifter.proofs.Runs.{flag-due}
 use Rattle.shifter.proofs.Shifts.{mode-kept, flag-before, flag-at-last, byte-kept, took, top-at}
 

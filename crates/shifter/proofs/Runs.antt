@@ -6,39 +6,21 @@ use native.Mathlib.Decide.{decLt}
 use native.Mathlib.Omega.{arith}
 use lib.Dec.{eqb, lit≤}
 use borrow.Author.Tests.{eq-eqb, ne-eqb}
-use Rattle.clocks.specs.Clocks.{if_then_else_, after}
+use Rattle.clocks.specs.Clocks.{if_then_else_, after, inTurn}
 use Rattle.clocks.specs.Forecasts.{comes}
 use Rattle.clocks.specs.declared.Forecast.the-variants.{Never, In}
-use Rattle.clocks.proofs.Clocks.{turns-alike, after-still}
+use Rattle.clocks.proofs.Clocks.{after-still}
 use Rattle.clocks.proofs.Tests.{both, on-false, picked}
 use Rattle.clocks.proofs.Turns.{Turns, after-short, after-past, flag-after}
 use Rattle.clocks.proofs.Forecasts.{stood-comes, AtMost, most-gated}
-use Rattle.shifter.specs.Shifter.{byClock, byPulse, shifted, marked, counting, clocked, pulsed, accessed}
-use Rattle.shifter.specs.Demands.{shifts}
+use Rattle.shifter.specs.Shifter.{byClock, byPulse, shifted, shifts, marked, counting, clocked, pulsed, accessed}
 use Rattle.shifter.specs.Closed.{begun, clocksOf, dueOf}
 use Rattle.shifter.specs.declared.Shifter.{Shifter}
-use Rattle.shifter.proofs.Shifts as Shifts
+use Rattle.shifter.proofs.Shifts.{mode-kept, left-after, flag-before, flag-at-last}
 
--- ---- shifts on end, with CB2 still
-
-module _ (level : Bool) (s : Shifter) where
-  abbrev shiftsOn : ℕ → Shifter
-  shiftsOn j = after j (shifted level) s
-
-  as-turns : (j : ℕ) → shiftsOn j ≡ shifts j (λ k. level) s
-  as-turns j = turns-alike j (shifted level) s
-
-  keeps-mode : (j : ℕ) → shiftsOn j .mode ≡ s .mode
-  keeps-mode j = ap (λ (u : Shifter). u .mode) (as-turns j) ∙ Shifts.mode-kept (λ k. level) s j
-
-  left-after : (j : ℕ) → j ≤ s .left → shiftsOn j .left ≡ s .left - j
-  left-after j h = ap (λ (u : Shifter). u .left) (as-turns j) ∙ Shifts.left-after (λ k. level) s j h
-
-  flag-before : (j : ℕ) → j < s .left → shiftsOn j .flag ≡ s .flag
-  flag-before j h = ap (λ (u : Shifter). u .flag) (as-turns j) ∙ Shifts.flag-before (λ k. level) s j h
-
-  flag-at-last : (j : ℕ) → suc j ≡ s .left → shiftsOn (suc j) .flag ≡ true
-  flag-at-last j h = ap (λ (u : Shifter). u .flag) (as-turns (suc j)) ∙ Shifts.flag-at-last (λ k. level) s j h
+-- j shifts on end, with CB2 still
+abbrev made : Bool → ℕ → Shifter → Shifter
+made level j s = shifts j (λ k. level) s
 
 -- ---- clocks
 
@@ -46,13 +28,7 @@ pub still : (level : Bool) (s : Shifter) → counting s ≡ false → clocked le
 unfolding clocked
 still level s e = on-false (counting s) _ s e
 
--- a clock, by the mark
-by-mark :
-    (level h : Bool) (s : Shifter) → byClock (s .mode) ≡ true → 0 < s .left
-    → clocked level (marked h s) ≡ (if h then marked false (shifted level s) else marked true s)
-unfolding clocked shifted
-by-mark level h s m l = rw (m, ne-eqb (s .left) 0 (omega arith))
-
+-- a clock that moves it, by the mark
 pub second-clock : (level : Bool) (s : Shifter) → counting s ≡ true → s .half ≡ true → clocked level s ≡ marked false (shifted level s)
 unfolding clocked
 second-clock level s c h = rw (c, h)
@@ -60,6 +36,16 @@ second-clock level s c h = rw (c, h)
 pub first-clock : (level : Bool) (s : Shifter) → counting s ≡ true → s .half ≡ false → clocked level s ≡ marked true s
 unfolding clocked
 first-clock level s c h = rw (c, h)
+
+moving : (s : Shifter) → byClock (s .mode) ≡ true → 0 < s .left → counting s ≡ true
+moving s m l = rw (m, ne-eqb (s .left) 0 (omega arith))
+
+by-mark :
+    (level h : Bool) (s : Shifter) → byClock (s .mode) ≡ true → 0 < s .left
+    → clocked level (marked h s) ≡ (if h then marked false (shifted level s) else marked true s)
+unfolding shifted
+by-mark level true s m l = second-clock level (marked true s) (moving s m l) refl
+by-mark level false s m l = first-clock level (marked false s) (moving s m l) refl
 
 -- two clocks from no mark on are a shift
 pub two-clocks :
@@ -73,22 +59,22 @@ two-clocks level s m l h =
 
 -- k counts above the clock that makes the last shift: two clocks are a shift, and the mark is set between them
 abbrev fallen : Bool → ℕ → Shifter → Shifter
-fallen level k s = marked (eqb (k % 2) 0) (after (s .left - suc (k / 2)) (shifted level) s)
+fallen level k s = marked (eqb (k % 2) 0) (made level (s .left - suc (k / 2)) s)
 
 -- with all shifts made
 abbrev pub spent : Bool → Shifter → Shifter
-spent level s = marked false (after (s .left) (shifted level) s)
+spent level s = marked false (made level (s .left) s)
 
 module _ (level : Bool) (s : Shifter) (m : byClock (s .mode) ≡ true) (l : 0 < s .left) where
   -- the clock after j shifts
   clock-after :
       (h : Bool) (j : ℕ) → j < s .left
-      → clocked level (marked h (after j (shifted level) s))
-      ≡ (if h then marked false (after (suc j) (shifted level) s) else marked true (after j (shifted level) s))
-  unfolding after
+      → clocked level (marked h (made level j s))
+      ≡ (if h then marked false (made level (suc j) s) else marked true (made level j s))
+  unfolding inTurn
   clock-after h j g =
-      by-mark level h (after j (shifted level) s) (ap byClock (keeps-mode level s j) ∙ m)
-      (omega (arith, left-after level s j (omega arith)))
+      by-mark level h (made level j s) (ap byClock (mode-kept (λ k. level) s j) ∙ m)
+      (omega (arith, left-after (λ k. level) s j (omega arith)))
 
   falls : (k : ℕ) → k < clocksOf s - 1 → clocked level (fallen level (suc k) s) ≡ fallen level k s
   falls k g = go (decLt (k % 2) 1) (picked (λ (b : ℕ). k < 2 * s .left - b - 1 → suc k < 2 * s .left) (s .half) (λ q. omega arith) (λ q. omega arith) g)
@@ -101,22 +87,22 @@ module _ (level : Bool) (s : Shifter) (m : byClock (s .mode) ≡ true) (l : 0 < 
       go (no e) q =
           let h : suc (s .left - suc (suc k / 2)) ≡ s .left - suc (k / 2) = omega arith in
           rw (eq-eqb (suc k % 2) 0 (omega arith), ne-eqb (k % 2) 0 (omega arith))
-          (clock-after true (s .left - suc (suc k / 2)) (omega arith) ∙ ap (λ (j : ℕ). marked false (after j (shifted level) s)) h)
+          (clock-after true (s .left - suc (suc k / 2)) (omega arith) ∙ ap (λ (j : ℕ). marked false (made level j s)) h)
 
   passes : clocked level (fallen level 0 s) ≡ spent level s
   passes =
       let h : suc (s .left - 1) ≡ s .left = omega arith in
-      clock-after true (s .left - 1) (omega arith) ∙ ap (λ (j : ℕ). marked false (after j (shifted level) s)) h
+      clock-after true (s .left - 1) (omega arith) ∙ ap (λ (j : ℕ). marked false (made level j s)) h
 
   rests : clocked level (spent level s) ≡ spent level s
   rests =
-      let u = after (s .left) (shifted level) s in
-      let e = left-after level s (s .left) (omega arith) in
+      let u = made level (s .left) s in
+      let e = left-after (λ k. level) s (s .left) (omega arith) in
       still level (spent level s)
       (ap (λ (b : Bool). byClock (u .mode) && not b) (eq-eqb (u .left) 0 (omega arith)) ∙ and-false (byClock (u .mode)))
 
   turns : Turns (clocked level) s (clocksOf s - 1) 0 (λ k. fallen level k s) (λ q k. spent level s)
-  unfolding after
+  unfolding inTurn
   turns =
       record {
         start = go (s .half);
@@ -139,11 +125,11 @@ module _ (level : Bool) (s : Shifter) (m : byClock (s .mode) ≡ true) (l : 0 < 
   pub ran-short :
       (n : ℕ) → n + begun (s .half) < 2 * s .left
       → after n (clocked level) s
-      ≡ marked (eqb ((n + begun (s .half)) % 2) 1) (after ((n + begun (s .half)) / 2) (shifted level) s)
+      ≡ marked (eqb ((n + begun (s .half)) % 2) 1) (made level ((n + begun (s .half)) / 2) s)
   ran-short n h =
       let b = begun (s .half) in
       let j : s .left - suc ((clocksOf s - 1 - n) / 2) ≡ (n + b) / 2 = omega arith in
-      after-short turns n (omega arith) ∙ (λ i. marked (parity b h i) (after (j i) (shifted level) s))
+      after-short turns n (omega arith) ∙ (λ i. marked (parity b h i) (made level (j i) s))
     where
       parity : (b : ℕ) → n + b < 2 * s .left → eqb ((2 * s .left - b - 1 - n) % 2) 0 ≡ eqb ((n + b) % 2) 1
       parity b h = go (decLt ((n + b) % 2) 1)
@@ -163,16 +149,16 @@ module _ (level : Bool) (s : Shifter) (m : byClock (s .mode) ≡ true) (l : 0 < 
   flag-after-is k =
       flag-after turns (λ u. u .flag) true
       (record {
-        kept = λ k. flag-before level s (s .left - suc (k / 2)) (omega arith);
+        kept = λ k. flag-before (λ k. level) s (s .left - suc (k / 2)) (omega arith);
         raised = λ q k. raised;
       })
       k
       ∙ ap (λ (n : ℕ). comes (In n) k || s .flag) (whole (s .half))
     where
-      raised : after (s .left) (shifted level) s .flag ≡ true
+      raised : made level (s .left) s .flag ≡ true
       raised =
           let e : suc (s .left - 1) ≡ s .left = omega arith in
-          ap (λ (j : ℕ). after j (shifted level) s .flag) (sym e) ∙ flag-at-last level s (s .left - 1) e
+          ap (λ (j : ℕ). made level j s .flag) (sym e) ∙ flag-at-last (λ k. level) s (s .left - 1) e
 
       whole : (h : Bool) → 2 * s .left - begun h - 1 + 1 ≡ 2 * s .left - begun h
       whole true = omega arith

@@ -10,8 +10,7 @@ use Rattle.clocks.specs.Clocks.{if_then_else_, inTurn}
 use Rattle.clocks.specs.Bits.{bit}
 use Rattle.clocks.proofs.Clocks.{turns-keep}
 use Rattle.clocks.proofs.Bits.{bit-suc, bit-mod, bit-here, bit-other, with-lt}
-use Rattle.shifter.specs.Shifter.{taken, toCome, shifted}
-use Rattle.shifter.specs.Demands.{shifts}
+use Rattle.shifter.specs.Shifter.{taken, toCome, shifted, shifts}
 use Rattle.shifter.specs.declared.Shifter.{Shifter}
 
 -- ---- how many are to come

@@ -3,16 +3,12 @@ use mathlib.Core.Path.{_≡_}
 use mathlib.Core.Bool.{Bool, true, false}
 use Prim.Native.Nat.{ℕ, suc, _-_, _<_, _≤_}
 use lib.Dec.{eqb, leb}
-use Rattle.clocks.specs.Clocks.{after, inTurn}
+use Rattle.clocks.specs.Clocks.{after}
 use Rattle.clocks.specs.Bits.{bit}
 use Rattle.clocks.specs.Forecasts.{comes}
 use Rattle.clocks.specs.declared.Forecast.{Forecast}
-use Rattle.shifter.specs.Shifter.{byClock, outward, shifted, clocked, accessed}
+use Rattle.shifter.specs.Shifter.{byClock, outward, shifts, clocked, accessed}
 use Rattle.shifter.specs.declared.Shifter.{Shifter}
-
--- n shifts, the first with CB2 at the level l 0
-abbrev pub shifts : ℕ → (ℕ → Bool) → Shifter → Shifter
-shifts n l = inTurn n (λ k. shifted (l k))
 
 -- eight shifts outward put the byte's bits on CB2, the highest first, and leave the byte as it was, whatever the levels
 abbrev pub Eight-out : Type 0

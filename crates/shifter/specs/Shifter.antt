@@ -2,7 +2,7 @@
 use mathlib.Core.Bool.{Bool, true, false, not, _&&_, _||_}
 use Prim.Native.Nat.{ℕ, _-_, _*_, _%_}
 use lib.Dec.{eqb}
-use Rattle.clocks.specs.Clocks.{if_then_else_}
+use Rattle.clocks.specs.Clocks.{if_then_else_, inTurn}
 use Rattle.clocks.specs.Bits.{bit, withBit}
 use Rattle.shifter.specs.declared.Shifter.{Shifter}
 
@@ -45,6 +45,10 @@ shifted level s =
       flag = eqb (toCome s - 1) 0 || s .flag;
       mode = s .mode;
     }
+
+-- n shifts, the first with CB2 at the level l 0
+abbrev pub shifts : ℕ → (ℕ → Bool) → Shifter → Shifter
+shifts n l = inTurn n (λ k. shifted (l k))
 
 -- ---- clocks, pulses, accesses
 

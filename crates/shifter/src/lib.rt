@@ -5,7 +5,7 @@ ghost use mathlib.Core.Bool.{Bool};
 ghost use Prim.Native.Nat.{ℕ, _≤_};
 ghost use Rattle.clocks.specs.Clocks.{after};
 ghost use Rattle.clocks.specs.Forecasts.{comes};
-ghost use Rattle.shifter.specs.Shifter.{byClock, byPulse, outward as outwardOf, allowedMode, taken as takenOf, shifted as shiftedOf, marked as markedOf, counting as countingOf, clocked, pulsed as pulsedOf, accessed as accessedOf};
+ghost use Rattle.shifter.specs.Shifter.{byClock, byPulse, outward as outwardOf, allowedMode, taken as takenOf, shifted as shiftedOf, shifts as shiftsOf, marked as markedOf, counting as countingOf, clocked, pulsed as pulsedOf, accessed as accessedOf};
 ghost use Rattle.shifter.specs.Closed.{begun as begunOf};
 use clocks::Forecast;
 use clocks::bit;
@@ -96,7 +96,7 @@ impl Shifter {
 
     // m shifts on end.
     fn shifts(self, m: u8, level: bool) -> Shifter
-        ensures { λ r. ⌜ r ≡ after m (shiftedOf level) self ⌝ }
+        ensures { λ r. ⌜ r ≡ shiftsOf m (λ k. level) self ⌝ }
     {
         let mut now = self;
         let mut i = 0;

@@ -16,8 +16,7 @@ use Rattle.flags.specs.Flags.{raised, accessClears, readClears, writeClears}
 use Rattle.flags.specs.Demands.{edgeAt}
 use Rattle.flags.proofs.Demands.{raised-by-bit}
 use Rattle.shifter.specs.Shifter as Shift
-use Rattle.shifter.specs.Shifter.{byClock, byPulse, outward, shifted, pulsed, accessed}
-use Rattle.shifter.specs.Demands.{shifts}
+use Rattle.shifter.specs.Shifter.{byClock, byPulse, outward, shifted, shifts, pulsed, accessed}
 use Rattle.shifter.specs.declared.Shifter.{Shifter}
 use Rattle.shifter.proofs.Runs.{two-clocks, on-rise, no-rise, other-modes, pulsed-mode}
 use Rattle.shifter.proofs.Shifts.{left-after}

@@ -5,8 +5,7 @@ use mathlib.Core.Path.{_≡_, _∙_, ap, sym}
 use mathlib.Core.Bool.{true, false}
 use native.Mathlib.Omega.{arith}
 use Prim.Native.Nat.{_+_, _/_, _%_}
-use Rattle.clocks.specs.Clocks.{after}
-use Rattle.shifter.specs.Shifter.{shifted, marked, counting}
+use Rattle.shifter.specs.Shifter.{shifts, marked, counting}
 use Rattle.shifter.proofs.Runs.{moved, resting, ran-short, ran-past}
 use Rattle.shifter.proofs.Shifter.run.Statement.{statement}
 use Rattle.shifter.proofs.Shifter.run.Tie as tie
@@ -33,7 +32,7 @@ returns-3 c =
     let b = t .begun .ensures .0 in
     c .marked2 .ensures
     ∙ ap (marked _) (c .before .shifts2 .ensures)
-    ∙ (λ i. marked (eqb ((at .n + b i) % 2) 1) (after ((at .n + b i) / 2) (shifted (at .level)) (at .self)))
+    ∙ (λ i. marked (eqb ((at .n + b i) % 2) 1) (shifts ((at .n + b i) / 2) (λ k. at .level) (at .self)))
     ∙ sym (ran-short (at .level) (at .self) (moved (at .self) on .0) (moved (at .self) on .1) (at .n) (omega (arith, b)))
 
 pub run-spec : {M : Type 1} → statement M
