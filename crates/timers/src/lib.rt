@@ -7,6 +7,7 @@ mod first;
 mod second;
 
 // `mark`: the counter takes the latch at the next clock. `level`: what T1 puts on PB7. `free`: free-run, else one-shot.
+#[repr(C)]
 pub struct T1 {
     pub counter: u16,
     pub latch: u16,
@@ -18,6 +19,7 @@ pub struct T1 {
 }
 
 // `low`: the low latch. `pulse`: pulses on PB6 count, and clocks do not.
+#[repr(C)]
 pub struct T2 {
     pub counter: u16,
     pub low: u8,
@@ -26,6 +28,7 @@ pub struct T2 {
     pub pulse: bool,
 }
 
+#[repr(C)]
 pub struct Timers {
     pub t1: T1,
     pub t2: T2,

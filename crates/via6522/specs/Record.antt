@@ -1,9 +1,10 @@
 -- The record: which ones are well formed, what it has at power-up, and what a reset does to it.
-use mathlib.Core.Bool.{Bool, true, false, not, _&&_, _||_}
+use mathlib.Core.Bool.{Bool, true, false, _&&_}
 use Prim.Native.Nat.{ℕ, _/_, _%_}
-use lib.Dec.{eqb, ltb, leb}
+use lib.Dec.{ltb, leb}
 use Rattle.ports.specs.Ports.{fresh, silent}
 use Rattle.flags.specs.Flags.{allowedPcr}
+use Rattle.timers.specs.First.{markFits}
 use Rattle.shifter.specs.Shifter.{allowedMode}
 use Rattle.via6522.specs.declared.Count1.{Count1}
 use Rattle.via6522.specs.declared.Count2.{Count2}
@@ -25,7 +26,7 @@ wellFormed v =
     && ltb (v .ier) 128
     && allowedAcr (v .acr)
     && allowedPcr (v .pcr)
-    && (not (v .t1 .mark) || eqb (v .t1 .counter) 65535)
+    && markFits (v .t1 .mark) (v .t1 .counter)
     && ltb (v .control) 16
     && leb (v .sr .left) 8
 
