@@ -1,2 +1,3 @@
+pub mod Numbers
 pub mod Loans
-pub mod Asked
+pub mod Demands

@@ -22,13 +22,13 @@ fn refusal(p: Timers) -> u8
 fn clocked(p: Timers) -> Timers
     ensures { λ r. ⌜ r ≡ (if wellFormed p then clockedPair p else p) ⌝ }
 {
-    if well_formed(p) { p.clock() } else { p }
+    if refusal(p) == 0 { p.clock() } else { p }
 }
 
 fn ran(p: Timers, n: u32) -> Timers
     ensures { λ r. ⌜ r ≡ (if wellFormed p then after n clockedPair p else p) ⌝ }
 {
-    if well_formed(p) { p.run(n) } else { p }
+    if refusal(p) == 0 { p.run(n) } else { p }
 }
 
 // One clock.

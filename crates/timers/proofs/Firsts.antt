@@ -6,7 +6,7 @@ use native.Mathlib.Decide.{ℕ-discrete}
 use native.Mathlib.Nat.{mod-lt}
 use native.Mathlib.Omega.{arith}
 use lib.Dec.{eqb, eqb·suc-zero, lit<}
-use borrow.Author.Tests.{eq-eqb, ne-eqb}
+use borrow.Author.Tests.{eqb-true, eq-eqb, ne-eqb}
 use Rattle.clocks.specs.Clocks.{if_then_else_, after}
 use Rattle.clocks.specs.Forecasts.{comes}
 use Rattle.clocks.specs.declared.Forecast.{Forecast}
@@ -14,7 +14,7 @@ use Rattle.clocks.specs.declared.Forecast.the-variants.{Never, In}
 use Rattle.clocks.proofs.Tests.{picked}
 use Rattle.clocks.proofs.Turns.{Turns, after-short, after-past, flag-after}
 use Rattle.clocks.proofs.Forecasts.{stood-comes, AtMost, most-gated}
-use Rattle.timers.specs.First.{at, passed, clocked}
+use Rattle.timers.specs.First.{markFits, at, passed, clocked}
 use Rattle.timers.specs.Closed.{topOf, periodOf, turned, fallen}
 use Rattle.timers.specs.declared.T1.{T1}
 
@@ -126,6 +126,15 @@ unfolding clocked
 keeps-free t =
     picked (λ (u : T1). u .free ≡ t .free) (t .mark) refl
     (picked (λ (u : T1). u .free ≡ t .free) (eqb (t .counter) 0) refl refl)
+
+-- what the test of the mark says, and the test from it
+pub fits-top : (m : Bool) (c : ℕ) → markFits m c ≡ true → m ≡ true → c ≡ 65535
+fits-top true c h e = eqb-true c 65535 h
+fits-top false c h e = absurd (false≢true e)
+
+pub top-fits : (m : Bool) (c : ℕ) → (m ≡ true → c ≡ 65535) → markFits m c ≡ true
+top-fits true c h = eq-eqb c 65535 (h refl)
+top-fits false c h = refl
 
 -- a reload is to come only at the top
 pub marked-top : (t : T1) → clocked t .mark ≡ true → clocked t .counter ≡ 65535

@@ -1,11 +1,11 @@
 -- What the test of a well-formed record says, and the test from what it says.
-use mathlib.Core.Path.{_≡_, refl}
-use mathlib.Core.Bool.{Bool, true, false, not, _||_, false≢true}
-use Prim.Native.Nat.{ℕ, _<_, _≤_}
-use lib.Dec.{eqb}
-use borrow.Author.Tests.{eqb-true, eq-eqb, ltb-true, lt-ltb, leb-true, le-leb}
+use mathlib.Core.Path.{_≡_}
+use mathlib.Core.Bool.{true}
+use Prim.Native.Nat.{_<_, _≤_}
+use borrow.Author.Tests.{ltb-true, lt-ltb, leb-true, le-leb}
 use Rattle.clocks.proofs.Tests.{both}
 use Rattle.flags.specs.Flags.{allowedPcr}
+use Rattle.timers.proofs.Firsts.{fits-top, top-fits}
 use Rattle.via6522.specs.Record.{allowedAcr, wellFormed}
 use Rattle.via6522.specs.declared.Via.{Via}
 
@@ -17,14 +17,6 @@ pub record Formed (v : Via) : Type 0 where
   pub top : v .t1 .mark ≡ true → v .t1 .counter ≡ 65535
   pub levels : v .control < 16
   pub few : v .sr .left ≤ 8
-
-at-top : (m : Bool) (c : ℕ) → (not m || eqb c 65535) ≡ true → m ≡ true → c ≡ 65535
-at-top true c h e = eqb-true c 65535 h
-at-top false c h e = absurd (false≢true e)
-
-top-test : (m : Bool) (c : ℕ) → (m ≡ true → c ≡ 65535) → (not m || eqb c 65535) ≡ true
-top-test true c h = eq-eqb c 65535 (h refl)
-top-test false c h = refl
 
 pub formed : (v : Via) → wellFormed v ≡ true → Formed v
 formed v w =
@@ -39,7 +31,7 @@ formed v w =
       enables = ltb-true (v .ier) 128 (a .1);
       modes = b .1;
       codes = c .1;
-      top = at-top (v .t1 .mark) (v .t1 .counter) (d .1);
+      top = fits-top (v .t1 .mark) (v .t1 .counter) (d .1);
       levels = ltb-true (v .control) 16 (e .1);
       few = leb-true (v .sr .left) 8 (f .1);
     }
@@ -51,7 +43,7 @@ well v h =
       lt-ltb (v .ier) 128 (h .enables),
       h .modes,
       h .codes,
-      top-test (v .t1 .mark) (v .t1 .counter) (h .top),
+      top-fits (v .t1 .mark) (v .t1 .counter) (h .top),
       lt-ltb (v .control) 16 (h .levels),
       le-leb (v .sr .left) 8 (h .few),
     )

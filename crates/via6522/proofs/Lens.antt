@@ -169,6 +169,15 @@ pub flag2-after : (n : ℕ) (v : Via) → bit 5 (after n clockOf v .ifr) ≡ aft
 unfolding withTimers
 flag2-after n v = ap (λ (u : Via). bit 5 (u .ifr)) (each-after n v) ∙ flag2 _ _ _
 
+-- the whole pair
+pub timers-after : (n : ℕ) (v : Via) → timersOf (after n clockOf v) ≡ after n Pair.clocked (timersOf v)
+unfolding timersOf withShifter
+timers-after n v =
+    ap timersOf (parts-after n v)
+    ∙ timers-put (after n Pair.clocked (timersOf v)) (withShifter (after n (Shift.clocked (levelCB2 v)) (shifterOf v)) v)
+    (after-keeps (λ (p : Timers). p .t1 .free ≡ bit 6 (v .acr)) Pair.clocked (λ p e. keeps-free (p .t1) ∙ e) n (timersOf v) refl)
+    (after-keeps (λ (p : Timers). p .t2 .pulse ≡ bit 5 (v .acr)) Pair.clocked (λ p e. keeps-mode (p .t2) ∙ e) n (timersOf v) refl)
+
 -- and the whole shift register
 pub shifter-after : (n : ℕ) (v : Via) → shifterOf (after n clockOf v) ≡ after n (Shift.clocked (levelCB2 v)) (shifterOf v)
 unfolding shifterOf

@@ -1,5 +1,5 @@
 use borrow.Author.Needs.{needs}
-use mathlib.Core.Path.{_∙_, sym}
+use mathlib.Core.Path.{sym}
 use Rattle.lent.proofs.refusal.Statement.{statement}
 use Rattle.lent.proofs.refusal.Tie as tie
 
