@@ -18,7 +18,7 @@ use prog.Wp.{Heap, Env, Calls, Loops, Closed, WpFn}
 use ghost.Atoms.{Atoms, sem}
 use contract.Monad.{Fun, fact}
 use contract.Running.{GhostRules, Running, givenOf, tables, tablesOf}
-use types.Kit.{Given, Item, ‵, raw, some, later, _⊛_, Goal, Post, runs, lands, Seq, Step, step, _$_, _∵_, !, qed, move, drop, use1, split, join, pick, rewrite, fsplit, fsplit3, fjoin, fjoin3, feqI, frame, updating, now as at-once, await, done}
+use types.Kit.{Given, Item, ‵, raw, some, later, _⊛_, ⋆, Goal, Post, runs, lands, Seq, Step, step, _$_, _∵_, !, qed, move, drop, use1, split, join, pick, rewrite, fsplit, fsplit3, fjoin, fjoin3, feqI, frame, updating, now as at-once, await, done}
 use types.Run.{Finds, Opds, look, look-raw, init, store-raw, stop, hop, from, load, of-opd, and-then, no-more, assigns, land}
 use types.SemTy.{Body as Lent}
 use sound.WpLaws.{FmC, fm→monoC, fmOf, WpFn-mono}
@@ -54,14 +54,14 @@ R = T.the-row
 abbrev pub vals : Timers → List Val
 vals = LL.vals T.the-type T′.the-laws
 
--- the number, and what is left by a rule
+-- the number of a call on the pair h, and what it leaves by a rule
 abbrev pub number : Timers → ℕ
 number h = if wellFormed h then 0 else 1
 
 abbrev pub after-rule : (Timers → Timers) → Timers → Timers
 after-rule rule h = if wellFormed h then rule h else h
 
--- each with its test, they are the answer with one
+-- as the functions by value have them, a test for each; together they are the answer, with one test
 pub one-test : (rule : Timers → Timers) (h : Timers) → left (number h) (after-rule rule h) ≡ lent rule h
 one-test rule h = go (wellFormed h)
   where
@@ -69,57 +69,64 @@ one-test rule h = go (wellFormed h)
     go true = refl
     go false = refl
 
--- where the pointer points
+-- the place that the pointer, local 1, points to
 abbrev pair : Place
 pair = place 1 (deref T′.mir ∷ [])
 
 module _ {M : Type 1} (𝓤 : URA M) (H : Heap 𝓤) (A : Atoms 𝓤) (W : Given 𝓤 H A) where
-  -- what is owned of a pair is only that it is one
+  -- to own a pair is to know that it is one
   pub own-pair : {K : Type 0} {Γ : List (Item 𝓤)} {G : Goal 𝓤 H} → K → (h : Timers) (vs : List Val) → Is R h vs → Step K W (‵ (R .own h vs) ∷ Γ) G Γ G
   own-pair t h vs is = owned t R (Is R) (LL.makes T.the-type T′.the-plain 𝓤 H A) h vs is
 
-  -- the loan as it is handed over, beside what else is: it is taken apart at the start
+  -- the loan of the pair h as a caller hands it over, with P beside it
+  abbrev Handed : Lft → ℕ → ℕ → GName → Timers → Fml → Fml
+  Handed κ b o γ h P = fsep (MutRef (named 0) κ R .own (record { ptr = (b, o); name = γ; now = h }) (vptr b o ∷ [])) P
+
+  -- the same taken apart: which pair it is, the borrow of the place where it lies, and the token of the loan's lifetime
+  abbrev Loan : Lft → Share → ℕ → ℕ → GName → Timers → List (Item 𝓤) → List (Item 𝓤)
+  Loan κ s b o γ h Γ = ‵ (fobs γ (R .coded .code h)) ∷ ‵ (fbor κ (Lent (mem R) b o γ)) ∷ ‵ (flft κ s) ∷ Γ
+
   pub taken :
       {K : Type 0} {Γ : List (Item 𝓤)} {G : Goal 𝓤 H} {κ : Lft} {s : Share} {b o : ℕ} {γ : GName} {P : Fml} → K → (h : Timers)
-      → Step K W (‵ (fobs γ (R .coded .code h)) ∷ ‵ (fbor κ (Lent (mem R) b o γ)) ∷ ‵ (flft κ s) ∷ ‵ P ∷ Γ) G
-      ((‵ (flft κ s) ⊛ ‵ ftrue) ∷ ‵ (fsep (MutRef (named 0) κ R .own (record { ptr = (b, o); name = γ; now = h }) (vptr b o ∷ [])) P) ∷ Γ) G
-  taken t h = step (λ k. split t $ move t (2 ∷ []) $ fsplit t $ fsplit3 t $ drop t $ move t (0 ∷ 1 ∷ 3 ∷ 2 ∷ 4 ∷ []) $ move t (4 ∷ []) $ drop t $ k)
+      → Step K W (Loan κ s b o γ h (‵ P ∷ Γ)) G ((‵ (flft κ s) ⊛ ‵ ftrue) ∷ ‵ (Handed κ b o γ h P) ∷ Γ) G
+  taken t h = step (λ k. split t $ move t (2 ∷ []) $ fsplit t $ fsplit3 t $ drop t $ move t (4 ∷ []) $ drop t $ move t (0 ∷ 1 ∷ 3 ∷ []) $ k)
 
-  -- and put together at the end, beside the number
   pub given-back :
-      (κ : Lft) (s : Share) (b o : ℕ) (γ : GName) (P : Fml) (h : Timers) (n : ℕ) (v : Val) → Is u8 n (v ∷ [])
-      → ent 𝓤 (sep 𝓤 (A .obs γ (R .coded .code h)) (sep 𝓤 (A .bor κ (Lent (mem R) b o γ)) (sep 𝓤 (A .lft κ s) (sem 𝓤 H A P))))
-      (sep 𝓤 (sep 𝓤 (A .lft κ s) (emp 𝓤))
-      (sep 𝓤 (sem 𝓤 H A (fsep (MutRef (named 0) κ R .own (record { ptr = (b, o); name = γ; now = h }) (vptr b o ∷ [])) P)) (sem 𝓤 H A (u8 .own n (v ∷ [])))))
-  given-back κ s b o γ P h n v is =
-      qed W (‵ (fobs γ (R .coded .code h)) ∷ ‵ (fbor κ (Lent (mem R) b o γ)) ∷ ‵ (flft κ s) ∷ ‵ P ∷ []) ∵ nothing ! $ move ! (3 ∷ 0 ∷ []) $ join ! $ frame ! $
-      feqI ! (List Val) (vptr b o ∷ []) (vptr b o ∷ []) refl $ fjoin3 ! $ fjoin ! $ owned ! u8 (Is u8) (uint-makes 𝓤 H A W w8) n (v ∷ []) is $ move ! (1 ∷ 0 ∷ []) $ done !
+      (κ : Lft) (s : Share) (b o : ℕ) (γ : GName) (h : Timers) (P : Fml) (n : ℕ) (v : Val) → Is u8 n (v ∷ [])
+      → ent 𝓤 (⋆ 𝓤 H A (Loan κ s b o γ h (‵ P ∷ [])))
+      (sep 𝓤 (sep 𝓤 (A .lft κ s) (emp 𝓤)) (sep 𝓤 (sem 𝓤 H A (Handed κ b o γ h P)) (sem 𝓤 H A (u8 .own n (v ∷ [])))))
+  given-back κ s b o γ h P n v is =
+      qed W (Loan κ s b o γ h (‵ P ∷ [])) ∵ nothing ! $ move ! (3 ∷ 0 ∷ []) $ join ! $ frame ! $
+      feqI ! (List Val) (vptr b o ∷ []) (vptr b o ∷ []) refl $ fjoin3 ! $ fjoin ! $
+      owned ! u8 (Is u8) (uint-makes 𝓤 H A W w8) n (v ∷ []) is $ move ! (1 ∷ 0 ∷ []) $ done !
 
   module _ (C : Calls 𝓤 H) (fm : FmC 𝓤 H (W .laws) C) where
     -- f, called with the values vs, gives x
     abbrev pub Gives : Name → List Val → (S : RattleType) → S .Denot → Type 1
     Gives f vs S x = ent 𝓤 (emp 𝓤) (C f vs (λ w. H .⇛ (sem 𝓤 H A (S .own x (w ∷ [])))))
 
-    -- of what a contract says after a call, the value alone
-    told :
-        (S : RattleType) (x : S .Denot) (w : Val) {L : Type 0} (P : L → Fml)
-        → ent 𝓤 (H .⇛ (ex 𝓤 (λ (r : S .Denot). sep 𝓤 (sep 𝓤 (emp 𝓤) (sem 𝓤 H A (S .own r (w ∷ [])))) (ex 𝓤 (λ (l : L). sep 𝓤 (sem 𝓤 H A (P l)) (fact 𝓤 (r ≡ x)))))))
-        (H .⇛ (sem 𝓤 H A (S .own x (w ∷ []))))
-    told S x w {L} P =
-        qed W (later (some (λ (r : S .Denot). (‵ ftrue ⊛ ‵ (S .own r (w ∷ []))) ⊛ some (λ (l : L). ‵ (P l) ⊛ raw (fact 𝓤 (r ≡ x))))) ∷ []) ∵ updating ! $ await ! tt $ pick ! (λ r.
+    -- what a contract says after a call that gave w, where its clause is that the result is x
+    abbrev Says : (S : RattleType) → S .Denot → {L : Type 0} → (L → Fml) → Val → SProp 𝓤
+    Says S x {L} P w =
+        H .⇛ (ex 𝓤 (λ (r : S .Denot). sep 𝓤 (sep 𝓤 (emp 𝓤) (sem 𝓤 H A (S .own r (w ∷ [])))) (ex 𝓤 (λ (l : L). sep 𝓤 (sem 𝓤 H A (P l)) (fact 𝓤 (r ≡ x))))))
+
+    -- of that, the value alone
+    told : (S : RattleType) (x : S .Denot) {L : Type 0} (P : L → Fml) (w : Val) → ent 𝓤 (Says S x P w) (H .⇛ (sem 𝓤 H A (S .own x (w ∷ []))))
+    told S x {L} P w =
+        qed W (later (some (λ (r : S .Denot). (‵ ftrue ⊛ ‵ (S .own r (w ∷ []))) ⊛ some (λ (l : L). ‵ (P l) ⊛ raw (fact 𝓤 (r ≡ x))))) ∷ []) ∵
+        updating ! $ await ! tt $ pick ! (λ r.
         split ! $ move ! (1 ∷ []) $ pick ! (λ l. split ! $ drop ! $ heard ! (r ≡ x) (λ e.
         split ! $ drop ! $ rewrite ! 0 (λ (y : S .Denot). ‵ (S .own y (w ∷ []))) e refl $ at-once ! $ done !)))
 
     -- a function by value that meets its contract gives what the contract says
     pub gives :
-        (f : Name) (c : Contract 𝓤) → Triple 𝓤 (C f) c → (y : c .Ghost) (S : RattleType) (x : S .Denot) {L : Type 0} (P : L → Fml) → ent 𝓤 (emp 𝓤) (c .pre y)
-        → ((w : Val) → c .post y w ≡ H .⇛ (ex 𝓤 (λ (r : S .Denot). sep 𝓤 (sep 𝓤 (emp 𝓤) (sem 𝓤 H A (S .own r (w ∷ [])))) (ex 𝓤 (λ (l : L). sep 𝓤 (sem 𝓤 H A (P l)) (fact 𝓤 (r ≡ x)))))))
-        → Gives f (c .args y) S x
+        (f : Name) (c : Contract 𝓤) → Triple 𝓤 (C f) c → (y : c .Ghost) (S : RattleType) (x : S .Denot) {L : Type 0} (P : L → Fml)
+        → ent 𝓤 (emp 𝓤) (c .pre y) → ((w : Val) → c .post y w ≡ Says S x P w) → Gives f (c .args y) S x
     gives f c known y S x P asked says =
         via 𝓤 (c .pre y) asked
         (via 𝓤 (C f (c .args y) (c .post y)) (known y)
         (fm→monoC 𝓤 H (W .laws) C fm f (c .args y) (c .post y) (λ w. H .⇛ (sem 𝓤 H A (S .own x (w ∷ []))))
-        (λ w. subst (λ (Q : SProp 𝓤). ent 𝓤 Q (H .⇛ (sem 𝓤 H A (S .own x (w ∷ []))))) (sym (says w)) (told S x w P))))
+        (λ w. subst (λ (Q : SProp 𝓤). ent 𝓤 Q (H .⇛ (sem 𝓤 H A (S .own x (w ∷ []))))) (sym (says w)) (told S x P w))))
 
     -- a value that means a pair is one of its type
     typed : (y : Timers) (w : Val) → Is R y (w ∷ []) → Holds (hasTy T′.mir w) × WT w
@@ -134,24 +141,23 @@ module _ {M : Type 1} (𝓤 : URA M) (H : Heap 𝓤) (A : Atoms 𝓤) (W : Given
         nothing t $ calls-from t fm (‵ ftrue) vs (λ w. H .⇛ (sem 𝓤 H A (S .own x (w ∷ [])))) given os (λ w.
         use1 W (later (‵ (S .own x (w ∷ [])))) (id⊢ 𝓤 _) $ await t tt $ facts t S (Is S) (shows 𝓤 H A S) x (w ∷ []) (λ is. k w is))
 
-    -- The walk, from [the loan of the pair h; e; the pointer; room for the result, for what is left and for the copy; …] to the same with the
-    -- pair at x, the result n, and both locals written. The result and the pointer are the first two locals, the copy is local i and
-    -- what is left local j; the operands after the copy are read from e, and have the values us
+    -- The walk. The result and the pointer are the first two locals; the copy is local i, and what is left is local j. The operands after
+    -- the copy are read from e and have the values us. It leaves the pair h at x and the result at n
     pub in-place :
-        {K : Type 0} {ref : Ty} {F : Env 𝓤 H} {l₀ l₁ l₂ l₃ i j : ℕ} {Λ : Loops 𝓤 H} {q : Post 𝓤 H} {κ : Lft} {s : Share} {b o : ℕ} {γ : GName} {e : Item 𝓤} {Δ : List (Item 𝓤)} {f g : Name} {xs : List Operand}
+        {K : Type 0} {ref : Ty} {F : Env 𝓤 H} {l₀ l₁ l₂ l₃ i j : ℕ} {Λ : Loops 𝓤 H} {q : Post 𝓤 H} {κ : Lft} {s : Share} {b o : ℕ} {γ : GName}
+        {e : Item 𝓤} {Δ : List (Item 𝓤)} {f g : Name} {xs : List Operand}
         → let E : Env 𝓤 H = (tyInt w8, l₀) ∷ (ref, l₁) ∷ F in
-        K → (h x : Timers) (n : ℕ) (us : List Val)
-        → ((Γ : List (Item 𝓤)) → Finds K W Γ E (place i []) (T′.mir, l₂, 0)) → ((Γ : List (Item 𝓤)) → Finds K W Γ E (place j []) (T′.mir, l₃, 0))
+        let Lies : ℕ → ℕ → Type 2 = λ k l. (Γ : List (Item 𝓤)) → Finds K W Γ E (place k []) (T′.mir, l, 0) in
+        let pointer : Item 𝓤 = ‵ (fat fullShare ref l₁ 0 (vptr b o)) in
+        K → (h x : Timers) (n : ℕ) (us : List Val) → Lies i l₂ → Lies j l₃
         → (Is R h (vals h) → Gives f (T′.lowered h ∷ us) R x) → (Is R h (vals h) → Gives g (vals h) u8 n)
         → ((a : Item 𝓤) (Γ : List (Item 𝓤)) → Opds K W (a ∷ e ∷ Γ) E xs us)
         → ((v w : Val) → Is u8 n (v ∷ [])
         → Seq K W
-        (‵ (fobs γ (R .coded .code x)) ∷ ‵ (fbor κ (Lent (mem R) b o γ)) ∷ ‵ (flft κ s) ∷ e ∷ ‵ (fat fullShare ref l₁ 0 (vptr b o))
-        ∷ ‵ (fat fullShare (tyInt w8) l₀ 0 v) ∷ ‵ (fat fullShare T′.mir l₃ 0 w) ∷ ‵ (fat fullShare T′.mir l₂ 0 (T′.lowered h)) ∷ Δ)
+        (Loan κ s b o γ x
+        (e ∷ pointer ∷ ‵ (fat fullShare (tyInt w8) l₀ 0 v) ∷ ‵ (fat fullShare T′.mir l₃ 0 w) ∷ ‵ (fat fullShare T′.mir l₂ 0 (T′.lowered h)) ∷ Δ))
         (runs C Λ E return q))
-        → Seq K W
-        (‵ (fobs γ (R .coded .code h)) ∷ ‵ (fbor κ (Lent (mem R) b o γ)) ∷ ‵ (flft κ s) ∷ e ∷ ‵ (fat fullShare ref l₁ 0 (vptr b o))
-        ∷ ‵ (froom (tyInt w8) l₀ 0) ∷ ‵ (froom T′.mir l₃ 0) ∷ ‵ (froom T′.mir l₂ 0) ∷ Δ)
+        → Seq K W (Loan κ s b o γ h (e ∷ pointer ∷ ‵ (froom (tyInt w8) l₀ 0) ∷ ‵ (froom T′.mir l₃ 0) ∷ ‵ (froom T′.mir l₂ 0) ∷ Δ))
         (runs C Λ E
         (seq (assign (place i []) (rvOpd (copy pair)))
         (seq (call f (copy (place i []) ∷ xs) (place j []))
@@ -169,11 +175,12 @@ module _ {M : Type 1} (𝓤 : URA M) (H : Heap 𝓤) (A : Atoms 𝓤) (W : Given
         land t (from t (stop t)) (init t 6 refl (uint-lawful 𝓤 H A W w8 .typed n _ is-n .0)) $
         own-pair t x (w ∷ []) is $ move t (2 ∷ 0 ∷ 3 ∷ 4 ∷ 5 ∷ []) $ closes t tt R x (w ∷ []) b o $ k v w is-n))))
 
-  -- what `refusal` is asked, and what it gives
+  -- what a function of one pair is handed
   pub one-pair : (h : Timers) → Is R h (vals h) → ent 𝓤 (emp 𝓤) (sep 𝓤 (sep 𝓤 (emp 𝓤) (sem 𝓤 H A (owns (R ∷ []) (h, tt) (vals h, tt)))) (emp 𝓤))
   one-pair h is = qed W [] ∵ own-pair ! h (vals h) is $ nothing ! $ move ! (1 ∷ 0 ∷ []) $ join ! $ nothing ! $ join ! $ frame ! $ done !
 
   module _ (at-mem : Memory → SProp 𝓤) (run : Routine → Fun 𝓤) where
+    -- what `refusal` promises, and so gives
     abbrev pub Refusal : Contract 𝓤
     Refusal = tripleOf 𝓤 H A refusal.signature (refusal.spec 𝓤 H A at-mem run)
 
@@ -181,12 +188,13 @@ module _ {M : Type 1} (𝓤 : URA M) (H : Heap 𝓤) (A : Atoms 𝓤) (W : Given
         (C : Calls 𝓤 H) (fm : FmC 𝓤 H (W .laws) C) → Triple 𝓤 (C #lent·refusal) Refusal → (h : Timers) → Is R h (vals h)
         → Gives C fm #lent·refusal (vals h) u8 (number h)
     numbers C fm known h is =
-        gives C fm #lent·refusal Refusal known ((tt, tt, tt, (h, tt), (vals h, tt)), tt) u8 (number h) (lasts refusal.ended tt (h, tt)) (one-pair h is) (λ w. refl)
+        gives C fm #lent·refusal Refusal known ((tt, tt, tt, (h, tt), (vals h, tt)), tt) u8 (number h)
+        (lasts refusal.ended tt (h, tt)) (one-pair h is) (λ w. refl)
 
 -- a function over a lent pair meets its contract if its code, walked with what `refusal` promises in hand, does
 pub proved :
-    {M : Type 1} (𝓤 : URA M) (H : Heap 𝓤) (𝓜 : Model 𝓤 H) (𝓖 : GhostRules 𝓤 H) (𝓡 : Running 𝓤 H 𝓜) (D : Ended) (hs : Stays (D .signature .params) (D .kept)) (c : Clauses 𝓤 D)
-    (γ : Names) (k : Name) (f : Fn) → let A = 𝓖 .A in let W = givenOf 𝓤 H 𝓜 𝓖 in let 𝓣 = tables 𝓤 H 𝓜 𝓡 γ in
+    {M : Type 1} (𝓤 : URA M) (H : Heap 𝓤) (𝓜 : Model 𝓤 H) (𝓖 : GhostRules 𝓤 H) (𝓡 : Running 𝓤 H 𝓜)
+    (D : Ended) (hs : Stays (D .signature .params) (D .kept)) (c : Clauses 𝓤 D) (γ : Names) (k : Name) (f : Fn) → let A = 𝓖 .A in let W = givenOf 𝓤 H 𝓜 𝓖 in let 𝓣 = tables 𝓤 H 𝓜 𝓡 γ in
     Closed 𝓤 H (𝓣 .C) (𝓣 .Λ) k f → γ #lent·refusal ≡ refusal-def.routine → AllGo 𝓤 H A W (D .signature .lifetimes) (D .signature .params) (D .kept) hs
     → (FmC 𝓤 H (W .laws) (𝓣 .C) → Triple 𝓤 (𝓣 .C #lent·refusal) (Refusal 𝓤 H A W (𝓜 .mem) (𝓡 .run)) → Walks 𝓤 H A D hs (WpFn 𝓤 H (𝓣 .C) (𝓣 .Λ) f) c)
     → Triple 𝓤 (𝓣 .C k) (tripleOf 𝓤 H A (D .signature) (closing 𝓤 H A D c))
@@ -197,4 +205,5 @@ proved 𝓤 H 𝓜 𝓖 𝓡 D hs c γ k f closed is goes walk =
     let 𝓣 = tablesOf 𝓤 H 𝓜 (tables 𝓤 H 𝓜 𝓡 γ) in
     entered 𝓤 H (tripleOf 𝓤 H A (D .signature) (closing 𝓤 H A D c)) (𝓣 .C) (𝓣 .Λ) k f closed
     (walk-meets 𝓤 H A D hs W goes c (WpFn 𝓤 H (𝓣 .C) (𝓣 .Λ) f) (WpFn-mono 𝓤 H (W .laws) 𝓣 f)
-    (walk (fmOf 𝓤 H (W .laws) 𝓣) (cited 𝓤 H (Refusal 𝓤 H A W (𝓜 .mem) (𝓡 .run)) 𝓜 𝓡 γ #lent·refusal refusal-def.routine is (refusal-thm.met 𝓤 H 𝓜 𝓖 𝓡))))
+    (walk (fmOf 𝓤 H (W .laws) 𝓣)
+    (cited 𝓤 H (Refusal 𝓤 H A W (𝓜 .mem) (𝓡 .run)) 𝓜 𝓡 γ #lent·refusal refusal-def.routine is (refusal-thm.met 𝓤 H 𝓜 𝓖 𝓡))))
