@@ -1,9 +1,10 @@
 /*
- * A timer pair of the 6522 that a host program keeps, clocked where it stands. The two functions are proved: crates/lent
- * says what each leaves of the pair. `rt staticlib lent` proves them and writes target/staticlib/liblent.a to link.
+ * The 6522's two timers in a host program's own memory. The functions below are proved: crates/lent says what each leaves of
+ * the pair. `rt staticlib lent` proves them and writes target/staticlib/liblent.a, for x86-64 Linux, to link.
  *
- * The caller answers for the pointer: it is that of a pair, which no other thread reads or writes during the call, and each
- * bool in it is 0 or 1, as C stores one. Of the pair itself nothing is taken for granted.
+ * The caller answers for what a pointer is: it is not NULL, it is even, it points to a whole pair that may be written, and no
+ * other thread reads or writes the pair during the call. And for each bool: it is 0 or 1, as C stores one. Any such pair may
+ * be handed over.
  */
 #ifndef SNOWFERRULE_LENT_H
 #define SNOWFERRULE_LENT_H
@@ -26,7 +27,7 @@ struct t1 {
     bool free;
 };
 
-/* low: the low latch. flag: IFR5. pulse: ACR bit 5, pulses on PB6 count and clocks do not. */
+/* low: the low latch. flag: IFR5. pulse: ACR bit 5, T2 counts pulses on PB6. No clock moves it then; the host counts. */
 struct t2 {
     uint16_t counter;
     uint8_t low;
@@ -41,14 +42,14 @@ struct timers {
 };
 
 /*
- * Both give the refusal number: 0, or 1 for a pair whose reload mark is set while T1 does not read 65,535. Such a pair is
- * left as it is.
+ * Each gives 0, or 1 if it refuses the pair: `t1.mark` is true and `t1.counter` is not 65,535. A refused pair has the same
+ * values afterwards.
  */
 
 /* One clock. */
 uint8_t clock_pair(struct timers *pair);
 
-/* n clocks at once, in a time that does not grow with n; n single clocks leave the same pair. */
+/* n clocks at once, as n calls of clock_pair would leave the pair, in a time that does not grow with n. */
 uint8_t run_pair(struct timers *pair, uint32_t n);
 
 #ifdef __cplusplus

@@ -2,7 +2,7 @@
  * A host program that keeps 6522 timer pairs and lends them to the proved library, which has to do what the plain reference
  * here does: one clock, written down from the chip's rules, and arithmetic for runs that are too long to clock.
  *
- *     cc -std=c11 -O2 -Iinclude -o host docs/src/host.c target/staticlib/liblent.a
+ *     cc -std=c11 -Wall -Wextra -Werror -O2 -Iinclude -o host docs/src/host.c target/staticlib/liblent.a
  *
  * tests/lent makes it and runs it. The first difference is printed field by field and ends it with 1.
  */
@@ -92,7 +92,7 @@ static const struct field {
 };
 static const struct field *const END = FIELDS + sizeof FIELDS / sizeof *FIELDS;
 
-/* Of the bytes, low byte first as on x86-64, so that a bool left as neither 0 nor 1 is seen. */
+/* A field's bytes as a number, the low byte first, as on x86-64. Read like this, a bool that is neither 0 nor 1 shows. */
 static uint32_t value(const struct timers *p, const struct field *f) {
     uint32_t v = 0;
     memcpy(&v, (const unsigned char *)p + f->at, f->size);
@@ -195,7 +195,7 @@ static void try_pairs(void) {
         plain = before;
         unsigned number = plain_run(&plain, n);
         agree("a lent run", n, run_pair(lent, n), number, &plain);
-        agree("single lent clocks", n, lent_clocks(n, number), number, &plain);
+        if (n > 0) agree("single lent clocks", n, lent_clocks(n, number), number, &plain);
         agree("arithmetic of the reference itself", n, by_arithmetic(lent, n), number, &plain);
         refused += number;
         clocks += n;
@@ -227,7 +227,7 @@ static double now(void) {
 static double plain_took, lent_took, run_took;
 
 static void try_billion(void) {
-    /* In free-run. In the header's order and without names, so that with one field more it does not compile. */
+    /* In free-run. In the header's order and without names, so that with one field more a warning stops the compiler. */
     before = (struct timers){{1234, 4320, true, false, true, false, true}, {54321, 52, true, false, false}};
     struct timers plain = before;
     unsigned runs = 0;

@@ -9,37 +9,41 @@ use Rattle.timers.specs.Pair.{clocked}
 use Rattle.timers.specs.declared.Timers.{Timers}
 use Rattle.timers.proofs.Firsts.{top-fits, marked-top}
 use Rattle.calls.specs.declared.Call22.the-variants.{Run}
-use Rattle.via6522.specs.Record.{wellFormed}
 use Rattle.via6522.specs.Clock.{timersOf}
 use Rattle.via6522.proofs.Formed.{formed}
 use Rattle.via6522.proofs.Lens.{timers-after}
 use Rattle.via6522.proofs.Demands.{answers}
-use Rattle.lent.specs.Lent.{Left, left, lent}
+use Rattle.lent.specs.Lent.{Outcome, outcome, lent, clockPair, runPair}
 use Rattle.lent.specs.Demands as Demands
 use Rattle.lent.specs.Demands.{clockedOnce}
 
 -- both ways of the test
-well : (rule : Timers → Timers) (p : Timers) → Pair.wellFormed p ≡ true → lent rule p ≡ left 0 (rule p)
+well : (rule : Timers → Timers) (p : Timers) → Pair.wellFormed p ≡ true → lent rule p ≡ outcome 0 (rule p)
 well rule p w = rw w refl
 
-ill : (rule : Timers → Timers) (p : Timers) → Pair.wellFormed p ≡ false → lent rule p ≡ left 1 p
+ill : (rule : Timers → Timers) (p : Timers) → Pair.wellFormed p ≡ false → lent rule p ≡ outcome 1 p
 ill rule p w = rw w refl
 
+abbrev pair : Outcome → Timers
+pair o = o .pair
+
+abbrev number : Outcome → ℕ
+number o = o .refusal
+
+abbrev Well : Timers → Type 0
+Well p = Pair.wellFormed p ≡ true
+
 -- a clock leaves a well-formed pair, whatever it comes from
-keeps : (p : Timers) → Pair.wellFormed (clocked p) ≡ true
+keeps : (p : Timers) → Well (clocked p)
 keeps p = top-fits _ _ (marked-top (p .t1))
-
-abbrev pair : Left → Timers
-pair l = l .pair
-
-abbrev number : Left → ℕ
-number l = l .refusal
 
 -- n single lent clocks of a well-formed pair are n clocks; an ill-formed one they leave
 module _ (n : ℕ) (p : Timers) where
-  clocks-well : Pair.wellFormed p ≡ true → after n clockedOnce p ≡ after n clocked p
-  clocks-well =
-      after-agree (λ (q : Timers). Pair.wellFormed q ≡ true) clockedOnce clocked (λ q w. ap pair (well clocked q w)) (λ q w. keeps q) n p
+  kept : Well p → Well (after n clocked p)
+  kept = after-keeps Well clocked (λ q w. keeps q) n p
+
+  clocks-well : Well p → after n clockedOnce p ≡ after n clocked p
+  clocks-well = after-agree Well clockedOnce clocked (λ q w. ap pair (well clocked q w)) (λ q w. keeps q) n p
 
   clocks-ill : Pair.wellFormed p ≡ false → after n clockedOnce p ≡ p
   clocks-ill w = after-still clockedOnce p (ap pair (ill clocked p w)) n
@@ -47,32 +51,39 @@ module _ (n : ℕ) (p : Timers) where
 pub clocks-are-a-run : Demands.Clocks-are-a-run
 clocks-are-a-run n p = go (Pair.wellFormed p) refl
   where
-    go : (b : Bool) → Pair.wellFormed p ≡ b → after n clockedOnce p ≡ lent (after n clocked) p .pair
+    go : (b : Bool) → Pair.wellFormed p ≡ b → after n clockedOnce p ≡ runPair n p .pair
     go true w = clocks-well n p w ∙ sym (ap pair (well (after n clocked) p w))
     go false w = clocks-ill n p w ∙ sym (ap pair (ill (after n clocked) p w))
 
 pub numbers-agree : Demands.Numbers-agree
 numbers-agree k n p = go (Pair.wellFormed p) refl
   where
-    go : (b : Bool) → Pair.wellFormed p ≡ b → lent clocked (after k clockedOnce p) .refusal ≡ lent (after n clocked) p .refusal
+    go : (b : Bool) → Pair.wellFormed p ≡ b → clockPair (after k clockedOnce p) .refusal ≡ runPair n p .refusal
     go true w =
-        ap (λ (q : Timers). lent clocked q .refusal) (clocks-well k p w)
-        ∙ ap number (well clocked (after k clocked p) (after-keeps (λ (q : Timers). Pair.wellFormed q ≡ true) clocked (λ q h. keeps q) k p w))
+        ap (λ (q : Timers). clockPair q .refusal) (clocks-well k p w) ∙ ap number (well clocked (after k clocked p) (kept k p w))
         ∙ sym (ap number (well (after n clocked) p w))
-    go false w = ap (λ (q : Timers). lent clocked q .refusal) (clocks-ill k p w) ∙ ap number (ill clocked p w) ∙ sym (ap number (ill (after n clocked) p w))
+    go false w =
+        ap (λ (q : Timers). clockPair q .refusal) (clocks-ill k p w) ∙ ap number (ill clocked p w)
+        ∙ sym (ap number (ill (after n clocked) p w))
+
+pub stays-well-formed : Demands.Stays-well-formed
+stays-well-formed n p w = ap (λ (o : Outcome). Pair.wellFormed (o .pair)) (well (after n clocked) p w) ∙ kept n p w
 
 pub refused-untouched : Demands.Refused-untouched
-refused-untouched rule p = go (Pair.wellFormed p)
+refused-untouched n p = go (Pair.wellFormed p)
   where
-    go : (b : Bool) → ((if b then left 0 (rule p) else left 1 p) .refusal ≡ 0 → ⊥) → (if b then left 0 (rule p) else left 1 p) ≡ left 1 p
+    go :
+        (b : Bool) → (outcome (if b then 0 else 1) p .refusal ≡ 0 → ⊥)
+        → outcome (if b then 0 else 1) (if b then after n clocked p else p) ≡ outcome 1 p
     go true h = absurd (h refl)
     go false h = refl
 
+-- the pair of a well-formed 6522 is well formed; n clocks of the chip are n of its pair; and its run is accepted
 pub pair-of-the-6522 : Demands.Pair-of-the-6522
 unfolding timersOf
 pair-of-the-6522 n v w =
     well (after n clocked) (timersOf v) (top-fits (v .t1 .mark) (v .t1 .counter) (formed v w .top))
-    ∙ ap (left 0) (sym (timers-after n v) ∙ ap (λ r. timersOf (r .via)) (sym (answers .accepts-well (Run n) v w refl)))
+    ∙ ap (outcome 0) (sym (timers-after n v) ∙ ap (λ r. timersOf (r .via)) (sym (answers .accepts-well (Run n) v w refl)))
 
 pub pair-of-the-6522-once : Demands.Pair-of-the-6522-once
 unfolding after

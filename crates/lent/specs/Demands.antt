@@ -3,7 +3,7 @@ use mathlib.Core.Path.{_≡_}
 use mathlib.Core.Bool.{true}
 use Prim.Native.Nat.{ℕ}
 use Rattle.clocks.specs.Clocks.{after}
-use Rattle.timers.specs.Pair.{clocked}
+use Rattle.timers.specs.Pair as Pair
 use Rattle.timers.specs.declared.Timers.{Timers}
 use Rattle.calls.specs.declared.Call22.the-variants.{Run}
 use Rattle.chips.specs.Chips.{next}
@@ -11,27 +11,32 @@ use Rattle.via6522.specs.Record.{wellFormed}
 use Rattle.via6522.specs.Clock.{timersOf}
 use Rattle.via6522.specs.Chip.{chip}
 use Rattle.via6522.specs.declared.Via.{Via}
-use Rattle.lent.specs.Lent.{left, lent}
+use Rattle.lent.specs.Lent.{outcome, clockPair, runPair}
 
--- what a single lent clock leaves
+-- the pair after one call of `clock_pair`
 abbrev pub clockedOnce : Timers → Timers
-clockedOnce p = lent clocked p .pair
+clockedOnce p = clockPair p .pair
 
--- n single lent clocks leave what one lent run of n leaves, a pair that is refused among them
+-- n calls of `clock_pair` and one `run_pair` of n end with the same pair, whatever pair they begin with
 abbrev pub Clocks-are-a-run : Type 0
-Clocks-are-a-run = (n : ℕ) (p : Timers) → after n clockedOnce p ≡ lent (after n clocked) p .pair
+Clocks-are-a-run = (n : ℕ) (p : Timers) → after n clockedOnce p ≡ runPair n p .pair
 
--- and each of them gives the number that the run gives
+-- every one of those calls gives the number that the run gives
 abbrev pub Numbers-agree : Type 0
-Numbers-agree = (k n : ℕ) (p : Timers) → lent clocked (after k clockedOnce p) .refusal ≡ lent (after n clocked) p .refusal
+Numbers-agree = (k n : ℕ) (p : Timers) → clockPair (after k clockedOnce p) .refusal ≡ runPair n p .refusal
 
--- a pair that is refused is left as it is
+-- an accepted pair is accepted again
+abbrev pub Stays-well-formed : Type 0
+Stays-well-formed = (n : ℕ) (p : Timers) → Pair.wellFormed p ≡ true → Pair.wellFormed (runPair n p .pair) ≡ true
+
+-- whatever the number is but 0, it is 1 and the pair is the one that was lent
 abbrev pub Refused-untouched : Type 0
-Refused-untouched = (rule : Timers → Timers) (p : Timers) → (lent rule p .refusal ≡ 0 → ⊥) → lent rule p ≡ left 1 p
+Refused-untouched = (n : ℕ) (p : Timers) → (runPair n p .refusal ≡ 0 → ⊥) → runPair n p ≡ outcome 1 p
 
--- the pair of a well-formed 6522, clocked in place, is the pair of the 6522 that its own run leaves; a single clock is its run of 1
+-- take the pair out of a well-formed 6522 and run it by itself, or run the 6522 and then take it out: it is one pair
 abbrev pub Pair-of-the-6522 : Type 0
-Pair-of-the-6522 = (n : ℕ) (v : Via) → wellFormed v ≡ true → lent (after n clocked) (timersOf v) ≡ left 0 (timersOf (next chip (Run n) v))
+Pair-of-the-6522 = (n : ℕ) (v : Via) → wellFormed v ≡ true → runPair n (timersOf v) ≡ outcome 0 (timersOf (next chip (Run n) v))
 
+-- a clock of the 6522 is its run of 1
 abbrev pub Pair-of-the-6522-once : Type 0
-Pair-of-the-6522-once = (v : Via) → wellFormed v ≡ true → lent clocked (timersOf v) ≡ left 0 (timersOf (next chip (Run 1) v))
+Pair-of-the-6522-once = (v : Via) → wellFormed v ≡ true → clockPair (timersOf v) ≡ outcome 0 (timersOf (next chip (Run 1) v))

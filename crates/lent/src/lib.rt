@@ -1,11 +1,10 @@
-// A timer pair that the caller keeps, clocked where it stands. The pair is lent for the call; all that is decided is decided on a copy.
+// The 6522's timer pair in its owner's memory: a call borrows it, decides everything on a copy, and stores what is left.
 ghost use mathlib.Core.Path.{_≡_};
-ghost use Rattle.clocks.specs.Clocks.{if_then_else_, after};
+ghost use Rattle.clocks.specs.Clocks.{after};
 ghost use Rattle.timers.specs.Pair.{wellFormed, clocked as clockedPair};
-ghost use Rattle.lent.specs.Lent.{left, lent};
+ghost use Rattle.lent.specs.Lent.{refusalOf, leftOf, outcome, clockPair, runPair};
 use timers::Timers;
 
-// The reload mark is set only while T1 reads 65,535.
 fn well_formed(p: Timers) -> bool
     ensures { λ r. ⌜ r ≡ wellFormed p ⌝ }
 {
@@ -14,19 +13,19 @@ fn well_formed(p: Timers) -> bool
 }
 
 fn refusal(p: Timers) -> u8
-    ensures { λ r. ⌜ r ≡ (if wellFormed p then 0 else 1) ⌝ }
+    ensures { λ r. ⌜ r ≡ refusalOf p ⌝ }
 {
     if well_formed(p) { 0 } else { 1 }
 }
 
 fn clocked(p: Timers) -> Timers
-    ensures { λ r. ⌜ r ≡ (if wellFormed p then clockedPair p else p) ⌝ }
+    ensures { λ r. ⌜ r ≡ leftOf clockedPair p ⌝ }
 {
     if refusal(p) == 0 { p.clock() } else { p }
 }
 
 fn ran(p: Timers, n: u32) -> Timers
-    ensures { λ r. ⌜ r ≡ (if wellFormed p then after n clockedPair p else p) ⌝ }
+    ensures { λ r. ⌜ r ≡ leftOf (after n clockedPair) p ⌝ }
 {
     if refusal(p) == 0 { p.run(n) } else { p }
 }
@@ -34,7 +33,7 @@ fn ran(p: Timers, n: u32) -> Timers
 // One clock.
 #[no_mangle]
 pub extern "C" fn clock_pair(p: &mut Timers) -> u8
-    ensures { λ r. ⌜ left r (now (p .exit)) ≡ lent clockedPair (now (p .entry)) ⌝ }
+    ensures { λ r. ⌜ outcome r (now (p .exit)) ≡ clockPair (now (p .entry)) ⌝ }
 {
     let old = *p;
     *p = clocked(old);
@@ -44,7 +43,7 @@ pub extern "C" fn clock_pair(p: &mut Timers) -> u8
 // n clocks, in a number of steps that does not grow with n.
 #[no_mangle]
 pub extern "C" fn run_pair(p: &mut Timers, n: u32) -> u8
-    ensures { λ r. ⌜ left r (now (p .exit)) ≡ lent (after n clockedPair) (now (p .entry)) ⌝ }
+    ensures { λ r. ⌜ outcome r (now (p .exit)) ≡ runPair n (now (p .entry)) ⌝ }
 {
     let old = *p;
     *p = ran(old, n);

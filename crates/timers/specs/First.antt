@@ -1,11 +1,11 @@
--- T1, the first timer: one clock of it.
+-- T1, the first timer: which counter its mark goes with, and one clock of it.
 use mathlib.Core.Bool.{Bool, true, false, not, _||_, _&&_}
 use Prim.Native.Nat.{ℕ, _-_}
 use lib.Dec.{eqb}
 use Rattle.clocks.specs.Clocks.{if_then_else_}
 use Rattle.timers.specs.declared.T1.{T1}
 
--- the reload mark is set only while the counter reads 65,535
+-- a set mark goes with a counter of 65,535, a clear one with any
 abbrev pub markFits : Bool → ℕ → Bool
 markFits mark counter = not mark || eqb counter 65535
 

@@ -1,4 +1,4 @@
--- The pair: which ones are well formed, and one clock, one of each timer.
+-- The pair: when it is well formed, and one clock, which is one of each timer.
 use mathlib.Core.Bool.{Bool}
 use Rattle.timers.specs.First as First
 use Rattle.timers.specs.Second as Second

@@ -34,7 +34,8 @@ use Rattle.clocks.specs.Clocks.{after}
 use Rattle.timers.specs.Pair.{clocked as clockedPair}
 use Rattle.timers.specs.declared.Timers.{Timers}
 use Rattle.timers.proofs.Timers.Laws as T′
-use Rattle.lent.proofs.Loans.{R, vals, number, after-rule, one-test, own-pair, taken, given-back, Gives, gives, in-place, Refusal, numbers, proved}
+use Rattle.lent.specs.Lent.{refusalOf, leftOf}
+use Rattle.lent.proofs.Loans.{R, vals, own-pair, taken, given-back, Gives, gives, in-place, Refusal, proved}
 use Rattle.lent.proofs.refusal.Symbol.{name as #lent·refusal}
 use Rattle.lent.proofs.ran as ran
 use Rattle.lent.proofs.ran.Symbol as ran-def
@@ -47,13 +48,13 @@ use Rattle.lent.proofs.run_pair.Code as code
 
 -- what is left of the pair
 abbrev next : ℕ → Timers → Timers
-next n h = after-rule (after n clockedPair) h
+next n h = leftOf (after n clockedPair) h
 
 -- the pair's reference is kept, at its last value, and so is n
 abbrev stayed : Stays (run-pair.ended .signature .params) (run-pair.ended .kept)
 stayed = (stay-ref (0 ∷ []) tt (plain (λ _. R)), (stay-none (λ _. u32) yes, tt))
 
-module _ {M : Type 1} (𝓤 : URA M) (H : Heap 𝓤) (A : Atoms 𝓤) (W : Given 𝓤 H A) (at-mem : Memory → SProp 𝓤) (run : Routine → Fun 𝓤) where
+module _ {M : Type 1} (𝓤 : URA M) (H : Heap 𝓤) (A : Atoms 𝓤) (at-mem : Memory → SProp 𝓤) (run : Routine → Fun 𝓤) where
   abbrev Ran : Contract 𝓤
   Ran = tripleOf 𝓤 H A ran.signature (ran.spec 𝓤 H A at-mem run)
 
@@ -61,11 +62,11 @@ module _ {M : Type 1} (𝓤 : URA M) (H : Heap 𝓤) (A : Atoms 𝓤) (W : Given
   clauses = run-pair.clauses 𝓤 H A at-mem run
 
   module _
-      (C : Calls 𝓤 H) (Λ : Loops 𝓤 H) (fm : FmC 𝓤 H (W .laws) C) (asked : Triple 𝓤 (C #lent·refusal) (Refusal 𝓤 H A W at-mem run))
-      (known : Triple 𝓤 (C #lent·ran) Ran) where
-    leaves : (n : ℕ) (h : Timers) → n < 2 ^ 32 → Is R h (vals h) → Gives 𝓤 H A W C fm #lent·ran (T′.lowered h ∷ vint w32 n ∷ []) R (next n h)
+      (W : Given 𝓤 H A) (C : Calls 𝓤 H) (Λ : Loops 𝓤 H) (fm : FmC 𝓤 H (W .laws) C)
+      (refusal-known : Triple 𝓤 (C #lent·refusal) (Refusal 𝓤 H A at-mem run)) (ran-known : Triple 𝓤 (C #lent·ran) Ran) where
+    leaves : (n : ℕ) (h : Timers) → n < 2 ^ 32 → Is R h (vals h) → Gives 𝓤 H A C #lent·ran (T′.lowered h ∷ vint w32 n ∷ []) R (next n h)
     leaves n h fits is =
-        gives 𝓤 H A W C fm #lent·ran Ran known ((tt, tt, tt, (h, (n, tt)), (vals h, (vint w32 n ∷ [], tt))), tt) R (next n h) (lasts ran.ended tt (h, (n, tt)))
+        gives 𝓤 H A W C fm #lent·ran Ran ran-known ((tt, tt, tt, (h, (n, tt)), (vals h, (vint w32 n ∷ [], tt))), tt) R (next n h) (lasts ran.ended tt (h, (n, tt)))
         (qed W [] ∵ nothing ! $ owned ! u32 (Is u32) (uint-makes 𝓤 H A W w32) n _ (refl, fits) $ fjoin ! $
         own-pair 𝓤 H A W ! h (vals h) is $ fjoin ! $ nothing ! $ join ! $ frame ! $ done !)
         (λ w. refl)
@@ -89,15 +90,15 @@ module _ {M : Type 1} (𝓤 : URA M) (H : Heap 𝓤) (A : Atoms 𝓤) (W : Given
           -- [local 4; what frees it; local 3; …; local 2; …; local 1; …; local 0; …; the loan; n]
           params1 ! $ pass1 ! (init ! 6 refl (tt, tt)) $ pass1 ! (init ! 4 refl (tt, record { fits = fits })) $ pass0 ! $
           move ! (10 ∷ 11 ∷ 12 ∷ 4 ∷ 6 ∷ 8 ∷ 0 ∷ 2 ∷ []) $
-          in-place 𝓤 H A W C fm ! h (next n h) (number h) (vint w32 n ∷ []) (λ Γ. from ! (stop !)) (λ Γ. from ! (stop !)) (leaves n h fits)
-          (numbers 𝓤 H A W at-mem run C fm asked h) (λ a Γ. and-then ! (load ! (from ! (stop !)) (look ! 1 refl)) (no-more !)) (λ v w is.
+          in-place 𝓤 H A W C fm at-mem run refusal-known ! h (next n h) (vint w32 n ∷ []) (λ Γ. from ! (stop !)) (λ Γ. from ! (stop !)) (leaves n h fits)
+          (λ a Γ. and-then ! (load ! (from ! (stop !)) (look ! 1 refl)) (no-more !)) (λ v w is.
           -- [the loan; local 2; local 1; local 0; local 4; local 3; what frees 4, 3, 2, 1 and 0; n]
           returns ! (look ! 5 refl) $ forget ! 3 refl $ forget ! 4 refl $ forget ! 5 refl $ forget ! 6 refl $ forget ! 7 refl $
           move ! (5 ∷ 12 ∷ []) $ free1 ! $ move ! (4 ∷ 10 ∷ []) $ free1 ! $ move ! (3 ∷ 8 ∷ []) $ free1 ! $ move ! (4 ∷ 6 ∷ []) $ free1 ! $
           move ! (3 ∷ 4 ∷ []) $ free1 ! $ free0 ! $
-          suffices ! _ (ends-at 𝓤 H A run-pair.ended stayed clauses W (((κ, tt), (s, tt), tt, x, at), tt) v (number h) (next n h, (tt, tt)) (tt, (tt, tt))) $
-          says ! (one-test (after n clockedPair) h) $
-          by ! (given-back 𝓤 H A W κ s b o γ (next n h) (owns (u32 ∷ []) (n, tt) (vint w32 n ∷ [], tt)) (number h) v is)))))))
+          suffices ! _ (ends-at 𝓤 H A run-pair.ended stayed clauses W (((κ, tt), (s, tt), tt, x, at), tt) v (refusalOf h) (next n h, (tt, tt)) (tt, (tt, tt))) $
+          says ! refl $
+          by ! (given-back 𝓤 H A W κ s b o γ (next n h) (owns (u32 ∷ []) (n, tt) (vint w32 n ∷ [], tt)) (refusalOf h) v is)))))))
 
 pub run-pair-spec : {M : Type 1} → stated.statement M
 unfolding code.routine
@@ -105,11 +106,11 @@ run-pair-spec 𝓤 H 𝓜 𝓖 𝓡 =
     let A = 𝓖 .A in
     let W = givenOf 𝓤 H 𝓜 𝓖 in
     let 𝓣 = tables 𝓤 H 𝓜 𝓡 code.env in
-    let said = clauses 𝓤 H A W (𝓜 .mem) (𝓡 .run) in
+    let said = clauses 𝓤 H A (𝓜 .mem) (𝓡 .run) in
     proved 𝓤 H 𝓜 𝓖 𝓡 run-pair.ended stayed said code.env #lent·run-pair code.function (code.unfolded 𝓤 H 𝓜 𝓡) code.calls-lent·refusal
-    (goes-ref 𝓤 H A W 1 0 tt (plain (λ _. R)), (goes-none 𝓤 H A W 1 (λ _. u32) yes (λ κs x f. refl), tt)) (λ fm asked.
+    (goes-ref 𝓤 H A W 1 0 tt (plain (λ _. R)), (goes-none 𝓤 H A W 1 (λ _. u32) yes (λ κs x f. refl), tt)) (λ fm refusal-known.
     walked 𝓤 H A run-pair.ended stayed said (WpFn 𝓤 H (𝓣 .C) (𝓣 .Λ) code.function)
     (λ κs. (ptr-vals, (uint-vals w32, tt))) (λ κs. (mut-tells (named 0) (κs .0) R, (uint-tells w32, tt))) (λ κs qs bounds a _ are.
-    via 𝓤 _ (fst∗ 𝓤 _ (emp 𝓤)) (walk 𝓤 H A W (𝓜 .mem) (𝓡 .run) (𝓣 .C) (𝓣 .Λ) fm asked
-    (cited 𝓤 H (Ran 𝓤 H A W (𝓜 .mem) (𝓡 .run)) 𝓜 𝓡 code.env #lent·ran ran-def.routine code.calls-lent·ran (ran-thm.met 𝓤 H 𝓜 𝓖 𝓡))
+    via 𝓤 _ (fst∗ 𝓤 _ (emp 𝓤)) (walk 𝓤 H A (𝓜 .mem) (𝓡 .run) W (𝓣 .C) (𝓣 .Λ) fm refusal-known
+    (cited 𝓤 H (Ran 𝓤 H A (𝓜 .mem) (𝓡 .run)) 𝓜 𝓡 code.env #lent·ran ran-def.routine code.calls-lent·ran (ran-thm.met 𝓤 H 𝓜 𝓖 𝓡))
     (κs .0) (qs .0) (a .0 .ptr .0) (a .0 .ptr .1) (a .0 .name) (a .0 .now) (a .1 .0) (are .1 .0 .1))))
