@@ -19,6 +19,16 @@ use Rattle.clocks.proofs.Forecasts.{comes-one, told-least, told-never, shortene
 use Rattle.chips.specs.Chips
 use Rattle.chips.specs.Chips.{Chip, first, answer, next, Reached, at-power-up, by, Answers, Clocked, Runs, Lined, line, Foretold, Lines, Keeps-word, Largest-forecast, clearedBy}
 
+-- ---- what a number says of the record's test, where 1 is for an ill-formed one and a is what the operands ask for
+
+pub only-well : (w : Bool) (a k : ℕ) → k ≡ (if w then a else 1) → k ≡ 0 → w ≡ true
+only-well true a k e z = refl
+only-well false a k e z = absurd (omega (arith, z, e))
+
+pub only-ill : (w : Bool) (a k : ℕ) → k ≡ (if w then a else 1) → a ≡ 0 → (k ≡ 0 → ⊥) → w ≡ false
+only-ill true a k e n z = absurd (z (e ∙ n))
+only-ill false a k e n z = refl
+
 -- ---- an answer, where the number that applies first is known
 
 module _ (C : Chip) (c : C .Call) (v : C .State) (k : ℕ) (e : k ≡ first C c v) where
@@ -34,18 +44,10 @@ module _ (C : Chip) (c : C .Call) (v : C .State) (k : ℕ) (e : k ≡ first C c 
 
   -- the record of an accepted call is well formed; a call with no fault in its operands is refused for the record
   pub accepts-only-well : k ≡ 0 → C .well v ≡ true
-  accepts-only-well z = go (C .well v) e
-    where
-      go : (b : Bool) → k ≡ (if b then C .asks c v else 1) → b ≡ true
-      go true q = refl
-      go false q = absurd (omega (arith, z, q))
+  accepts-only-well z = only-well (C .well v) (C .asks c v) k e z
 
   pub refuses-only-ill : C .asks c v ≡ 0 → (k ≡ 0 → ⊥) → C .well v ≡ false
-  refuses-only-ill n z = go (C .well v) e
-    where
-      go : (b : Bool) → k ≡ (if b then C .asks c v else 1) → b ≡ false
-      go true q = absurd (z (q ∙ n))
-      go false q = refl
+  refuses-only-ill n z = only-ill (C .well v) (C .asks c v) k e n z
 
 -- ---- what a chip shows of itself: where its answers have what they show, what operands are refused with, and that calls keep it well formed
 

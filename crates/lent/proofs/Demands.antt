@@ -70,11 +70,11 @@ pub stays-well-formed : Demands.Stays-well-formed
 stays-well-formed n p w = ap (λ (o : Outcome). Pair.wellFormed (o .pair)) (well (after n clocked) p w) ∙ kept n p w
 
 pub refused-untouched : Demands.Refused-untouched
-refused-untouched n p = go (Pair.wellFormed p)
+refused-untouched rule p = go (Pair.wellFormed p)
   where
     go :
         (b : Bool) → (outcome (if b then 0 else 1) p .refusal ≡ 0 → ⊥)
-        → outcome (if b then 0 else 1) (if b then after n clocked p else p) ≡ outcome 1 p
+        → outcome (if b then 0 else 1) (if b then rule p else p) ≡ outcome 1 p
     go true h = absurd (h refl)
     go false h = refl
 

@@ -11,7 +11,7 @@ use Rattle.via6522.specs.Record.{wellFormed}
 use Rattle.via6522.specs.Clock.{timersOf}
 use Rattle.via6522.specs.Chip.{chip}
 use Rattle.via6522.specs.declared.Via.{Via}
-use Rattle.lent.specs.Lent.{outcome, clockPair, runPair}
+use Rattle.lent.specs.Lent.{outcome, lent, clockPair, runPair}
 
 -- the pair after one call of `clock_pair`
 abbrev pub clockedOnce : Timers → Timers
@@ -29,14 +29,14 @@ Numbers-agree = (k n : ℕ) (p : Timers) → clockPair (after k clockedOnce p) .
 abbrev pub Stays-well-formed : Type 0
 Stays-well-formed = (n : ℕ) (p : Timers) → Pair.wellFormed p ≡ true → Pair.wellFormed (runPair n p .pair) ≡ true
 
--- whatever the number is but 0, it is 1 and the pair is the one that was lent
+-- whatever the number of either function is but 0, it is 1 and the pair is the one that was lent
 abbrev pub Refused-untouched : Type 0
-Refused-untouched = (n : ℕ) (p : Timers) → (runPair n p .refusal ≡ 0 → ⊥) → runPair n p ≡ outcome 1 p
+Refused-untouched = (rule : Timers → Timers) (p : Timers) → (lent rule p .refusal ≡ 0 → ⊥) → lent rule p ≡ outcome 1 p
 
 -- take the pair out of a well-formed 6522 and run it by itself, or run the 6522 and then take it out: it is one pair
 abbrev pub Pair-of-the-6522 : Type 0
 Pair-of-the-6522 = (n : ℕ) (v : Via) → wellFormed v ≡ true → runPair n (timersOf v) ≡ outcome 0 (timersOf (next chip (Run n) v))
 
--- a clock of the 6522 is its run of 1
+-- and so for one clock, which for the 6522 is a run of 1
 abbrev pub Pair-of-the-6522-once : Type 0
 Pair-of-the-6522-once = (v : Via) → wellFormed v ≡ true → clockPair (timersOf v) ≡ outcome 0 (timersOf (next chip (Run 1) v))

@@ -12,6 +12,7 @@ refusalOf p = if wellFormed p then 0 else 1
 abbrev pub leftOf : (Timers → Timers) → Timers → Timers
 leftOf rule p = if wellFormed p then rule p else p
 
+-- the number that a call gives, and the pair after it
 pub record Outcome : Type 0 where
   pub refusal : ℕ
   pub pair : Timers
@@ -19,6 +20,7 @@ pub record Outcome : Type 0 where
 abbrev pub outcome : ℕ → Timers → Outcome
 outcome number p = record { refusal = number; pair = p }
 
+-- the outcome of a call that goes by a rule
 abbrev pub lent : (Timers → Timers) → Timers → Outcome
 lent rule p = outcome (refusalOf p) (leftOf rule p)
 
