@@ -1,8 +1,9 @@
-"""Request 14, held against a session and the answers that a bench gave to it.
+"""Forecasts and runs, held against a session and the answers that a bench gave to it.
 
-With the pins still and no access a forecast keeps its word, and the parts of a
-run leave what the whole of it leaves. Both can be seen in what a bench writes,
-with no second bench beside it.
+With the pins still and no access a forecast keeps its word (request 14), and the
+parts of a run leave what the whole of it leaves; their turns (request 08) add up
+as well. All this can be seen in what a bench writes, with no second bench beside
+it.
 """
 
 import re
@@ -13,6 +14,11 @@ LARGEST = {b"22": 65_537, b"32": 261_121}
 RUN = re.compile(rb"(22|32)05([0-9A-F]{8})")
 RUN_ANSWER = re.compile(rb"000([01])")
 FORECAST_ANSWER = re.compile(rb"000([01])([0-9A-F]{8})")
+# A run of any chip, what one that tells its turns begins with and is answered, and the longest of these.
+ANY_RUN = re.compile(rb"(2205|3205|4505|4507)([0-9A-F]{8})")
+TOLD = b"4507"
+TOLD_ANSWER = re.compile(rb"(000[0-9A-F])([0-9A-F]{8})")
+LONGEST_TOLD = 4_294_967_290
 
 
 class Word:
@@ -87,20 +93,31 @@ class Kept:
 
 
 def in_parts(session, rng):
-    """A session with each run of the 6522 and the 6532 in two parts, and the places of the first parts."""
-    lines, firsts = [], set()
+    """A session with each run in two parts, and the places of the first parts.
+
+    With a place comes how many turns both parts count, or None for a run that tells none. A run that is refused for its
+    length stays whole: its parts would not be refused.
+    """
+    lines, firsts = [], {}
     for line in session.split(b"\n"):
-        run = RUN.fullmatch(line)
-        if run:
+        run = ANY_RUN.fullmatch(line)
+        if run and (run[1] != TOLD or int(run[2], 16) <= LONGEST_TOLD):
             clocks = int(run[2], 16)
             part = min(clocks, rng.choice((0, 1, max(1, clocks) - 1, rng.randrange(clocks + 1), rng.randrange(clocks + 1))))
-            firsts.add(len(lines))
-            lines.append(b"%s05%08X" % (run[1], part))
-            line = b"%s05%08X" % (run[1], clocks - part)
+            # The turn in which the parts meet is one of each, if each has clocks.
+            firsts[len(lines)] = int(0 < part < clocks) if run[1] == TOLD else None
+            lines.append(b"%s%08X" % (run[1], part))
+            line = b"%s%08X" % (run[1], clocks - part)
         lines.append(line)
     return b"\n".join(lines), firsts
 
 
-def without(answers, firsts):
-    """Answers but for those at these places."""
-    return b"\n".join(answer for place, answer in enumerate(answers.split(b"\n")) if place not in firsts)
+def joined(answers, firsts):
+    """What the answers to parts say of the whole runs: those to the second parts, with the turns of both."""
+    answers = answers.split(b"\n")
+    for place, twice in firsts.items():
+        parts = [TOLD_ANSWER.fullmatch(answer) for answer in answers[place:place + 2]]
+        if twice is not None and len(parts) == 2 and all(parts):
+            turns = sum(int(part[2], 16) for part in parts) - twice
+            answers[place + 1] = b"%s%08X" % (parts[1][1], turns)
+    return b"\n".join(answer for place, answer in enumerate(answers) if place not in firsts)

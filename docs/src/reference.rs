@@ -3,7 +3,7 @@
 //! Reads a session on standard input to its end and writes one answer a line.
 //!
 //!     rustc -O --edition 2021 reference.rs
-//!     ./reference < session                normal, with closed forms
+//!     ./reference < session                normal, many clocks at once
 //!     ./reference --by-clocks < session    one clock at a time, forecasts by looking
 //!
 //! Both ways must write the same bytes. The second is the yardstick for the
@@ -944,7 +944,8 @@ struct Chip6545 {
 }
 
 impl Chip6545 {
-    const LONGEST_RUN: u32 = 65_535;
+    /// In clocks, where the turns are asked for; other runs have no limit.
+    const LONGEST_WITH_TURNS: u32 = 4_294_967_290;
 
     fn power_up() -> Self {
         let mut chip = Chip6545 {
@@ -1124,36 +1125,41 @@ impl Chip6545 {
         Ok(())
     }
 
-    // Clocks. There is no closed form here in either mode.
+    // One clock. What is marked as inlined lets the loops over it keep the
+    // counters in registers.
 
-    fn run(&mut self, clocks: u32) -> Checked<()> {
-        if clocks > Self::LONGEST_RUN {
-            return Err(RUN_TOO_LONG);
-        }
-        for _ in 0..clocks {
-            self.clock();
-        }
-        Ok(())
-    }
-
-    fn clock(&mut self) {
+    /// Says whether it ended a line.
+    #[inline(always)]
+    fn clock(&mut self) -> bool {
         if self.strobe_waits {
             self.store_pen_address();
         }
         self.kept_de = self.unskewed_de();
         self.kept_cursor = self.unskewed_cursor();
+        self.step()
+    }
+
+    /// The clock's work on the counters alone. Says whether it ended a line.
+    #[inline(always)]
+    fn step(&mut self) -> bool {
         self.hsync_left = self.hsync_left.saturating_sub(1);
         // Equality and nothing else: a column beyond a lowered R0 must go all
         // the way round.
-        if self.column == self.r[0] {
+        let ends = self.column == self.r[0];
+        if ends {
             self.column = 0;
             self.end_line();
         } else {
             self.column = self.column.wrapping_add(1);
         }
         if self.column == self.r[2] {
-            self.hsync_left = self.r[3] & 0x0F;
+            self.hsync_left = self.hsync_width();
         }
+        ends
+    }
+
+    fn hsync_width(&self) -> u8 {
+        self.r[3] & 0x0F
     }
 
     fn store_pen_address(&mut self) {
@@ -1164,6 +1170,7 @@ impl Chip6545 {
         self.strobe_waits = false;
     }
 
+    #[inline(always)]
     fn end_line(&mut self) {
         self.vsync_left = self.vsync_left.saturating_sub(1);
         if self.in_adjust {
@@ -1209,6 +1216,116 @@ impl Chip6545 {
         self.reload_starts();
         self.field = (self.field + 1) % 32;
     }
+
+    /// Counts the lines that end.
+    fn run_by_clocks(&mut self, clocks: u32) -> u32 {
+        let mut line_ends = 0;
+        for _ in 0..clocks {
+            line_ends += u32::from(self.clock());
+        }
+        line_ends
+    }
+
+    // Many clocks at once.
+
+    /// Counts the lines that end. Only the first clock can find a strobe
+    /// waiting, and nobody sees what is kept before the last one: all those
+    /// between the two have only the counters to move.
+    fn run(&mut self, clocks: u32) -> u32 {
+        let mut line_ends = 0;
+        let mut left = clocks;
+        while left > 0 {
+            line_ends += u32::from(self.clock());
+            left -= 1;
+            if left > 1 {
+                line_ends += self.steps(left - 1);
+                left = 1;
+            }
+        }
+        line_ends
+    }
+
+    /// Goes from column 0 to column 0. Where a frame begins, the counters are
+    /// held against those with which the last one began. If they are the same,
+    /// the frame just gone would come again and again, and as many more of it
+    /// as there are clocks for are left out. It soon is so, since beginnings
+    /// differ in nothing but what is left of the two sync pulses.
+    #[inline(never)]
+    fn steps(&mut self, clocks: u32) -> u32 {
+        let mut line_ends = 0;
+        let mut left = clocks;
+        let mut beginning = None;
+        while left >= self.steps_to_column_0() {
+            left -= self.steps_to_column_0();
+            let field = self.field;
+            line_ends += u32::from(self.go_to_column_0());
+            if self.field == field {
+                continue;
+            }
+            let counters = self.counters();
+            if let Some((counters_then, left_then, line_ends_then)) = beginning {
+                if counters == counters_then {
+                    let frame = left_then - left;
+                    let frames = left / frame;
+                    left -= frames * frame;
+                    line_ends += frames * (line_ends - line_ends_then);
+                    self.field = ((u32::from(self.field) + frames % 32) % 32) as u8;
+                }
+            }
+            beginning = Some((counters, left, line_ends));
+        }
+        self.go_right(left as u8);
+        line_ends
+    }
+
+    /// Whatever decides where steps lead, apart from registers, which they leave
+    /// alone. The field isn't here: steps count it and never ask for it.
+    fn counters(&self) -> impl PartialEq {
+        (
+            (self.column, self.row, self.scan_line),
+            (self.in_adjust, self.adjust_line),
+            (self.row_start, self.frame_start),
+            (self.hsync_left, self.vsync_left),
+        )
+    }
+
+    /// Column 0 comes after R0, or after 255 if R0 has been passed.
+    fn steps_to_column_0(&self) -> u32 {
+        let last = if self.column <= self.r[0] {
+            self.r[0]
+        } else {
+            255
+        };
+        u32::from(last - self.column) + 1
+    }
+
+    /// Says whether the last of these steps, the one to column 0, ended a line.
+    fn go_to_column_0(&mut self) -> bool {
+        self.go_right((self.steps_to_column_0() - 1) as u8);
+        self.step()
+    }
+
+    /// Steps to higher columns, short of column 0.
+    fn go_right(&mut self, steps: u8) {
+        let from = self.column;
+        self.column += steps;
+        if from < self.r[2] && self.r[2] <= self.column {
+            // HSYNC began on the way, whatever was left of one before.
+            self.hsync_left = self.hsync_width().saturating_sub(self.column - self.r[2]);
+        } else {
+            self.hsync_left = self.hsync_left.saturating_sub(steps);
+        }
+    }
+}
+
+/// One for each line that a run ended, and one for the line that it stopped in;
+/// but a run without a clock has none.
+fn turns(clocks: u32, line_ends: u32) -> u32 {
+    if clocks == 0 {
+        0
+    } else {
+        line_ends + 1
+    }
 }
 
 // ------------------------------------------------------------------- bytes
@@ -1238,6 +1355,7 @@ enum Reply {
     Data(u8),
     Reading(Reading),
     Forecast(Option<u32>),
+    Turns(u32),
 }
 
 struct Bench {
@@ -1270,11 +1388,8 @@ impl Bench {
                         push_byte(answers, reading.data);
                         push_byte(answers, reading.cleared);
                     }
-                    Reply::Forecast(clocks) => {
-                        for byte in clocks.unwrap_or(NEVER).to_be_bytes() {
-                            push_byte(answers, byte);
-                        }
-                    }
+                    Reply::Forecast(clocks) => push_number(answers, clocks.unwrap_or(NEVER)),
+                    Reply::Turns(turns) => push_number(answers, turns),
                 }
             }
             Err(refusal) => push_byte(answers, refusal),
@@ -1361,7 +1476,21 @@ impl Bench {
                 }
             }
             [0x04, pen] => chip.pins(pen)?,
-            [0x05, n3, n2, n1, n0] => chip.run(u32::from_be_bytes([n3, n2, n1, n0]))?,
+            [op @ (0x05 | 0x07), n3, n2, n1, n0] => {
+                let clocks = u32::from_be_bytes([n3, n2, n1, n0]);
+                let with_turns = op == 0x07;
+                if with_turns && clocks > Chip6545::LONGEST_WITH_TURNS {
+                    return Err(RUN_TOO_LONG);
+                }
+                let line_ends = if self.by_clocks {
+                    chip.run_by_clocks(clocks)
+                } else {
+                    chip.run(clocks)
+                };
+                if with_turns {
+                    return Ok(Reply::Turns(turns(clocks, line_ends)));
+                }
+            }
             _ => return Err(NOT_A_FRAME),
         }
         Ok(Reply::Nothing)
@@ -1400,6 +1529,12 @@ fn push_byte(answers: &mut Vec<u8>, byte: u8) {
     const DIGITS: &[u8; 16] = b"0123456789ABCDEF";
     answers.push(DIGITS[usize::from(byte >> 4)]);
     answers.push(DIGITS[usize::from(byte & 0x0F)]);
+}
+
+fn push_number(answers: &mut Vec<u8>, number: u32) {
+    for byte in number.to_be_bytes() {
+        push_byte(answers, byte);
+    }
 }
 
 /// The beginning of a line whose LF hasn't been read yet. It keeps one

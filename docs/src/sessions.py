@@ -4,15 +4,16 @@
     sessions.py SEED LINES [--max-run N] [--chip 22|32|45] [--hostile PERCENT]
 
 Writes a session of LINES lines to standard output. The same arguments always
-give the same bytes. --max-run bounds the 6522 and 6532 run counts, so that a
-bench that goes one clock at a time stays quick; without it counts go up to
-4,294,967,295. (6545 runs have their own limit of 65,535.)
+give the same bytes. --max-run bounds the counts of all runs that are accepted,
+so that a bench that goes one clock at a time stays quick; without it counts go
+up to 4,294,967,295.
 
 Each chip is a story told in phases: set the chip up for something, then poke
 around the clocks and levels where that something happens. To aim at them a
-story keeps a rough idea of when a timer or a shifted byte is due. It's only an
-aim: were it wrong, the sessions would be duller, never invalid. The stories are
-interleaved in bursts, with hostile lines thrown in.
+story keeps a rough idea of when a timer or a shifted byte is due, and of where
+the screen stands. It's only an aim: were it wrong, the sessions would be duller,
+never invalid. The stories are interleaved in bursts, with hostile lines thrown
+in.
 """
 
 import argparse
@@ -1113,15 +1114,19 @@ class Story32(Story):
 class Story45(Story):
     chip = 0x45
     WIDTHS = {4: 127, 6: 127, 7: 127, 10: 127, 12: 63, 14: 63, 18: 63, 5: 31, 9: 31, 11: 31}
+    # The most clocks of a run that tells its turns; a run that doesn't may have any number.
+    MOST_TOLD = 4_294_967_290
 
     def __init__(self, rng, max_run):
         super().__init__(rng, max_run)
         self.r = [0] * 32
         self.pen = 0
+        self.column = 0
+        self.begin_frame()
 
     def phases(self):
-        return ((self.tiny_phase, 52), (self.blink_phase, 12), (self.plain_phase, 10),
-                (self.lowered_phase, 14), (self.noise_phase, 12))
+        return ((self.tiny_phase, 44), (self.blink_phase, 11), (self.plain_phase, 9),
+                (self.lowered_phase, 12), (self.far_phase, 26), (self.noise_phase, 11))
 
     def select(self, register):
         # The upper three bits of the address register aren't there.
@@ -1136,12 +1141,78 @@ class Story45(Story):
             value |= self.rng.randrange(256) & ~width
         return [self.select(register), self.write(1, value)]
 
-    def run(self, clocks):
-        return self.run_line(max(0, min(clocks, 65535)))
+    # Where the screen stands, and how far it is from there to the end of a line or of a frame.
+
+    def begin_frame(self):
+        self.row = self.scan = self.adjust = 0
+        self.adjusting = False
+
+    def reset(self):
+        self.column = 0
+        self.begin_frame()
+        return super().reset()
+
+    def frame_lines(self):
+        return (self.r[4] + 1) * (self.r[9] + 1) + self.r[5]
 
     def frame_clocks(self):
+        return (self.r[0] + 1) * self.frame_lines()
+
+    def to_line_end(self):
+        """Clocks up to the next line end; a column above R0 goes round before it."""
+        return (self.r[0] - self.column) % 256 + 1
+
+    def lines_left(self):
+        """Line ends up to the next frame, from any row, scan line or adjust line."""
         r = self.r
-        return (r[0] + 1) * ((r[4] + 1) * (r[9] + 1) + r[5])
+        if self.adjusting:
+            return (r[5] - self.adjust - 1) % 32 + 1
+        return (r[9] - self.scan) % 32 + 1 + (r[4] - self.row) % 128 * (r[9] + 1) + r[5]
+
+    def to_lines(self, ends):
+        """Clocks up to the last of so many line ends."""
+        return self.to_line_end() + (ends - 1) * (self.r[0] + 1)
+
+    def move(self, clocks):
+        """What these clocks do to the column and, at line ends, to row, scan line and adjust line."""
+        if clocks < self.to_line_end():
+            self.column = (self.column + clocks) % 256
+            return
+        past = clocks - self.to_line_end()
+        ends, self.column = 1 + past // (self.r[0] + 1), past % (self.r[0] + 1)
+        if ends >= self.lines_left():
+            ends = (ends - self.lines_left()) % self.frame_lines()
+            self.begin_frame()
+        self.move_lines(ends)
+
+    def move_lines(self, ends):
+        """Fewer line ends than the frame has left."""
+        of_row = (self.r[9] - self.scan) % 32 + 1
+        if self.adjusting:
+            self.adjust = (self.adjust + ends) % 32
+        elif ends < of_row:
+            self.scan = (self.scan + ends) % 32
+        else:
+            rows, self.scan = divmod(ends - of_row, self.r[9] + 1)
+            last = (self.r[4] - self.row) % 128
+            if rows < last:
+                self.row = (self.row + 1 + rows) % 128
+            else:
+                self.adjusting, self.row, self.scan = True, self.r[4], 0
+                self.adjust = ends - of_row - last * (self.r[9] + 1)
+
+    def run(self, clocks, told=20):
+        """A run. So many of a hundred ask for its turns, and get a refusal where it is too long for that."""
+        clocks = self.bounded(clocks)
+        if not self.chance(told):
+            self.move(clocks)
+            return self.run_line(clocks)
+        if clocks <= self.MOST_TOLD:
+            self.move(clocks)
+        return self.told_line(clocks)
+
+    def told_line(self, clocks):
+        return self.frame(7, *clocks.to_bytes(4, "big"))
 
     def reads(self, *registers):
         for register in registers:
@@ -1179,8 +1250,7 @@ class Story45(Story):
         elif kind == 3:
             yield self.frame(4, rng.choice((2, 3, 128, 255, rng.randrange(2, 256))))
         else:
-            yield self.run_line(rng.choice((65536, 65537, 0x10001, 0x80000000, HIGHEST_COUNT,
-                                            65536 * rng.randrange(1, 65536) + rng.randrange(100))))
+            yield self.told_line(rng.randrange(self.MOST_TOLD + 1, HIGHEST_COUNT + 1))
 
     def sync_widths(self):
         rng = self.rng
@@ -1212,20 +1282,11 @@ class Story45(Story):
         yield from self.set(10, top | mode << 5)
         yield from self.set(11, rng.choice((0, 1, 2, 31, 31, 31, rng.randrange(256))))
 
-    def tiny_frame(self):
-        rng = self.rng
-        r0 = rng.choice((0, 1, 2, 3, 3, 4, 5, 7))
-        settings = [
-            (0, r0), (1, rng.choice((0, 1, r0, r0, r0 + 1, r0 + 1, r0 + 1, 255))),
-            (2, rng.randrange(r0 + 2)), (3, self.sync_widths()),
-            (4, rng.choice((0, 1, 1, 2, 3))), (5, rng.choice((0, 0, 1, 1, 2, 3))),
-            (6, rng.choice((0, 1, 2, 2, 3, 4, 127))), (7, rng.choice((0, 0, 1, 1, 2, 3))),
-            (8, rng.choice((0, 0, 0x04, 0x10, 0x20, 0x30, 0x34, 0x14, 0x24))),
-            (9, rng.choice((0, 0, 1, 1, 2, 3))),
-        ]
+    def set_up(self, *settings):
+        """Timing registers in any order, where the frame starts, and a cursor; then a reset, or none."""
         begin = self.start()
-        settings += [(12, begin >> 8), (13, begin)]
-        rng.shuffle(settings)
+        settings = [*settings, (12, begin >> 8), (13, begin)]
+        self.rng.shuffle(settings)
         for register, value in settings:
             yield from self.set(register, value)
         yield from self.cursor_shape()
@@ -1233,17 +1294,79 @@ class Story45(Story):
         if self.chance(70):
             yield self.reset()
 
+    def tiny_frame(self):
+        rng = self.rng
+        r0 = rng.choice((0, 1, 2, 3, 3, 4, 5, 7))
+        return self.set_up(
+            (0, r0), (1, rng.choice((0, 1, r0, r0, r0 + 1, r0 + 1, r0 + 1, 255))),
+            (2, rng.randrange(r0 + 2)), (3, self.sync_widths()),
+            (4, rng.choice((0, 1, 1, 2, 3))), (5, rng.choice((0, 0, 1, 1, 2, 3))),
+            (6, rng.choice((0, 1, 2, 2, 3, 4, 127))), (7, rng.choice((0, 0, 1, 1, 2, 3))),
+            (8, self.any_r8()), (9, rng.choice((0, 0, 1, 1, 2, 3))),
+        )
+
+    def least_frame(self):
+        """A frame of one clock, or of one for each adjust line as well."""
+        rng = self.rng
+        return self.set_up(
+            (0, 0), (1, rng.choice((0, 1, 1, 255))), (2, rng.choice((0, 0, 1))), (3, self.sync_widths()), (4, 0),
+            (5, rng.choice((0, 0, 0, 1, 31))), (6, rng.choice((0, 1, 1, 127))), (7, rng.choice((0, 0, 1))),
+            (8, self.any_r8()), (9, 0),
+        )
+
+    def plain_frame(self):
+        """A frame of a plain size: 80 columns or so."""
+        rng = self.rng
+        r0, r4, r9 = draw(rng, (
+            (20, (63, 38, 7)), (10, (99, 30, 7)), (10, (127, 38, 7)),
+            (60, (rng.choice((39, 79, 99, 127, 255)), rng.choice((24, 31, 127)), rng.choice((0, 7, 8, 31)))),
+        ))
+        return self.set_up(
+            (0, r0), (1, rng.choice((40, 80, 255))), (2, rng.randrange(130)), (3, self.sync_widths()), (4, r4),
+            (5, rng.randrange(32)), (6, rng.choice((24, 25, 127))), (7, rng.randrange(r4 + 2)),
+            (8, self.any_r8()), (9, r9),
+        )
+
+    def large_frame(self):
+        """The largest frame there is, or nearly that."""
+        rng = self.rng
+        r0, r4, r9, r5 = rng.choice(((255, 127, 31, 31), (255, 127, 31, 31), (254, 127, 31, 0), (255, 126, 30, 30)))
+        return self.set_up(
+            (0, r0), (1, rng.choice((0, 80, 255))), (2, rng.randrange(256)), (3, self.sync_widths()), (4, r4), (5, r5),
+            (6, rng.choice((24, 127, 127))), (7, rng.randrange(128)), (8, self.any_r8()), (9, r9),
+        )
+
+    def any_r8(self):
+        return self.rng.choice((0, 0, 0x04, 0x10, 0x20, 0x30, 0x34, 0x14, 0x24))
+
+    def set_r8(self):
+        yield from self.set(8, self.any_r8())
+
+    def set_start(self):
+        begin = self.start()
+        yield from self.set(12, begin >> 8)
+        yield from self.set(13, begin)
+
+    def set_syncs(self):
+        """Pulses anywhere, none, or longer than a tiny line or frame."""
+        rng = self.rng
+        yield from self.set(2, rng.choice((0, self.r[0], rng.randrange(self.r[0] + 2), rng.randrange(256))))
+        yield from self.set(3, rng.choice((0x0F, 0xFF, self.sync_widths(), self.sync_widths())))
+        yield from self.set(7, rng.choice((0, self.r[4], rng.randrange(self.r[4] + 2), rng.randrange(128))))
+
     def poke(self):
         rng = self.rng
         frame = self.frame_clocks()
         line = self.r[0] + 1
         kind = rng.random()
-        if kind < 0.52:
+        if kind < 0.50:
             yield self.run(1)
-        elif kind < 0.62:
+        elif kind < 0.60:
             yield self.run(rng.choice((0, 2, 3, line - 1, line, line, line + 1, line * (self.r[9] + 1))))
-        elif kind < 0.68:
+        elif kind < 0.66:
             yield self.run(frame * rng.choice((1, 1, 2, 8, 16, 32)) + rng.choice((-1, 0, 0, 1)))
+        elif kind < 0.68:
+            yield self.far_run()
         elif kind < 0.75:
             yield from self.strobe(rng.choice((1, 1, 1, 2, 0, rng.randrange(frame + 1))))
         elif kind < 0.79:
@@ -1253,11 +1376,9 @@ class Story45(Story):
         elif kind < 0.85:
             yield from self.cursor_shape()
         elif kind < 0.87:
-            yield from self.set(8, rng.choice((0, 0x04, 0x10, 0x20, 0x30, 0x34, 0x14, 0x24)))
+            yield from self.set_r8()
         elif kind < 0.89:
-            begin = self.start()
-            yield from self.set(12, begin >> 8)
-            yield from self.set(13, begin)
+            yield from self.set_start()
         elif kind < 0.93:
             register = rng.choice((0, 1, 2, 3, 4, 5, 6, 7, 9))
             value = self.sync_widths() if register == 3 else rng.randrange(5)
@@ -1284,6 +1405,8 @@ class Story45(Story):
             yield self.write(1, self.r[0])
         for _ in range(self.rng.randrange(20)):
             yield self.run(1)
+        if self.chance(50):
+            yield self.far_run()
         yield from self.reads(*self.rng.sample(range(32), 6), 16, 17)
         yield self.read(0)
 
@@ -1292,43 +1415,39 @@ class Story45(Story):
         for _ in range(self.rng.randrange(30, 160)):
             yield from self.poke()
 
-    def blink_phase(self):
-        """Many fields, with the cursor where it shows in each."""
+    def blinking(self):
+        """A cursor that shows at the first column of each frame, as long as its field lets it."""
         rng = self.rng
-        yield from self.tiny_frame()
-        yield from self.set(1, self.r[0] + 1)
-        yield from self.set(6, self.r[4] + 1)
+        yield from self.set(1, min(255, self.r[0] + 1))
+        yield from self.set(6, min(127, self.r[4] + 1))
         yield from self.set(10, rng.choice((0x40, 0x60, 0x40, 0x60, 0x00, 0x20)))
         yield from self.set(11, 31)
         yield from self.set(14, self.r[12])
         yield from self.set(15, self.r[13])
         yield from self.set(8, rng.choice((0, 0, 0x20, 0x04)))
+
+    def blink_phase(self):
+        """Many fields, with the cursor where it shows in each."""
+        rng = self.rng
+        yield from self.tiny_frame()
+        yield from self.blinking()
         yield self.reset()
         if self.r[8] & 0x20:
             yield self.run(1)
         for _ in range(rng.randrange(20, 70)):
-            if self.chance(85):
+            if self.chance(82):
                 yield self.run(self.frame_clocks())
-            elif self.chance(70):
+            elif self.chance(45):
                 yield self.run(self.frame_clocks() * rng.randrange(1, 33))
+            elif self.chance(60):
+                yield self.run(self.frame_clocks() * self.some_frames(self.within() // self.frame_clocks()), 50)
             else:
                 yield from self.set(10, rng.choice((0x40, 0x60)))
 
     def plain_phase(self):
-        """A frame of a plain size: 80 columns or so, runs of many lines."""
+        """Runs of many lines, and the pen, on a screen of a plain size."""
         rng = self.rng
-        for register, value in ((0, rng.choice((39, 79, 99, 127, 255))), (1, rng.choice((40, 80, 255))),
-                                (2, rng.randrange(130)), (3, self.sync_widths()),
-                                (4, rng.choice((24, 31, 127))), (5, rng.randrange(32)),
-                                (6, rng.choice((24, 25, 127))), (7, rng.randrange(30)),
-                                (8, rng.choice((0, 0x04, 0x30))), (9, rng.choice((0, 7, 8, 31)))):
-            yield from self.set(register, value)
-        begin = self.start()
-        yield from self.set(12, begin >> 8)
-        yield from self.set(13, begin)
-        yield from self.cursor_shape()
-        yield from self.cursor_near_start()
-        yield self.reset()
+        yield from self.plain_frame()
         for _ in range(rng.randrange(10, 40)):
             line = self.r[0] + 1
             kind = rng.random()
@@ -1337,7 +1456,7 @@ class Story45(Story):
             elif kind < 0.45:
                 yield self.run(self.frame_clocks() + rng.choice((-1, 0, 1)))
             elif kind < 0.52:
-                yield self.run(rng.choice((65535, 65534, rng.randrange(65536))))
+                yield self.run(rng.choice((65535, 65536, rng.randrange(65536), self.far())))
             elif kind < 0.75:
                 yield from self.strobe(rng.randrange(1, 2 * line))
             elif kind < 0.85:
@@ -1363,9 +1482,11 @@ class Story45(Story):
         for _ in range(rng.randrange(8, 30)):
             line = self.r[0] + 1
             kind = rng.random()
-            if kind < 0.5:
+            if kind < 0.46:
                 yield self.run(rng.choice((1, line, line, 31 * line, 32 * line, 256, 255, 127 * line,
                                            128 * line * (self.r[9] + 1), rng.randrange(300))))
+            elif kind < 0.5:
+                yield self.far_run()
             elif kind < 0.8:
                 yield from self.strobe(1)
             else:
@@ -1396,11 +1517,131 @@ class Story45(Story):
                 yield self.run(rng.choice((1, 1, 1, rng.randrange(20), rng.randrange(600),
                                            rng.randrange(3000))))
             elif kind < 0.95:
-                yield self.run(rng.randrange(65536))
+                yield self.run(rng.choice((rng.randrange(65536), self.far())))
             elif kind < 0.97:
                 yield self.reset()
             else:
                 yield from self.refused()
+
+    # Long runs: what a bench can't go through clock by clock.
+
+    def within(self):
+        return min(self.max_run, HIGHEST_COUNT)
+
+    def near(self):
+        """So many clocks off a line's first column: its edges, HSYNC's, a line before, or anywhere in the line."""
+        rng = self.rng
+        line = self.r[0] + 1
+        return rng.choice((-1, 0, 0, 1, -line, self.r[2] + rng.randrange(-1, 16), rng.randrange(line)))
+
+    def some_lines(self):
+        """A number of lines; a bench may have a faster way from one of these on."""
+        rng = self.rng
+        return rng.choice((16, 17, 32, 33, 48, 64, 65, rng.randrange(15, 67), rng.randrange(16, 41), rng.randrange(41)))
+
+    def some_frames(self, most):
+        """A number of frames up to the most. After 32 the fields begin again."""
+        rng = self.rng
+        return min(most, draw(rng, (
+            (14, 0), (10, 1), (8, 2), (8, rng.randrange(3, 16)), (8, rng.choice((15, 16, 17))),
+            (12, rng.choice((31, 32, 33))), (8, 32 * rng.randrange(1, 300) + rng.choice((-1, 0, 1))),
+            (8, rng.randrange(1_000, 10_000)), (16, rng.randrange(most + 1)), (8, most),
+        )))
+
+    def far(self):
+        """A count of clocks: about so many lines, about so many frames, or whatever else is a long run."""
+        rng = self.rng
+        line, frame = self.r[0] + 1, self.frame_clocks()
+        first = self.to_lines(self.lines_left())
+        frames = self.some_frames(max(0, self.within() - first) // frame)
+        # A frame's first line, one of those of VSYNC, or any.
+        vsync = self.r[7] * (self.r[9] + 1) + rng.randrange(18)
+        inside = rng.choice((0, 0, 0, vsync, rng.randrange(self.frame_lines())))
+        return draw(rng, (
+            (22, self.to_lines(self.some_lines()) + self.near()),
+            (6, line * self.some_lines() + rng.choice((-1, 0, 1))),
+            (10, self.to_lines(rng.randrange(self.lines_left()) + 1) + self.near()),
+            (32, first + frame * frames + line * inside + self.near()),
+            (6, frame * frames + rng.choice((-1, 0, 1))),
+            (6, rng.choice((65_535, 65_536, 65_537))),
+            (8, rng.choice((0x7FFFFFFF, 0x80000000, 0x80000001, self.huge()))),
+            (6, rng.randrange(1_000_000, 100_000_000)),
+            (6, rng.choice((self.MOST_TOLD, self.MOST_TOLD + 1))),
+            (4, rng.choice((HIGHEST_COUNT, HIGHEST_COUNT - rng.randrange(20)))),
+        ))
+
+    def far_run(self):
+        return self.run(self.far(), 50)
+
+    def lower(self):
+        """In the middle of a frame, which may be made larger first, some registers put below their counters."""
+        rng = self.rng
+        for register, most in ((0, 255), (4, 127), (9, 31)):
+            if self.chance(25):
+                yield from self.set(register, rng.randrange(rng.choice((4, 12, most)) + 1))
+        yield self.run(rng.randrange(self.frame_clocks()))
+        for register, counter in ((0, self.column), (4, self.row), (9, self.scan)):
+            if counter and self.chance(60):
+                yield from self.set(register, rng.randrange(counter))
+        if self.chance(20):
+            yield self.run(self.to_line_end() + self.near())
+
+    def cut_adjust(self):
+        """In the adjust lines, R5 put to 0, to a line of them that is over, or anywhere."""
+        rng = self.rng
+        if not self.adjusting:
+            if self.r[5] == 0 or self.chance(50):
+                yield from self.set(5, rng.randrange(1, 32))
+            ends = self.lines_left() - rng.randrange(self.r[5])
+            yield self.run(self.to_lines(ends) - 1 - rng.randrange(self.r[0] + 1))
+        yield from self.set(5, rng.choice((0, 0, 0, self.adjust, rng.randrange(self.adjust + 1), rng.randrange(32))))
+
+    def show(self):
+        """What tells where a run has ended: the next clocks, line ends or frames, MA, the status."""
+        rng = self.rng
+        line, frame = self.r[0] + 1, self.frame_clocks()
+        kind = rng.random()
+        if kind < 0.34:
+            for _ in range(rng.choice((1, 1, 2, 3, 4, 17))):
+                yield self.run(1)
+        elif kind < 0.58:
+            yield from self.strobe(1)
+        elif kind < 0.72:
+            yield self.run(self.to_line_end() - 1)
+            for clocks in (1, *(line,) * rng.choice((0, 1, 2, 3, 17))):
+                yield self.run(clocks)
+        elif kind < 0.84:
+            yield self.run(self.to_lines(self.lines_left()) - 1)
+            for clocks in (1, *(frame * rng.choice((1, 1, 7, 8)),) * rng.choice((0, 1, 2, 3, 9))):
+                yield self.run(clocks)
+        elif kind < 0.94:
+            yield self.run(rng.randrange(1, rng.choice((4, line + 2, 300))))
+            yield self.read(0)
+        else:
+            yield self.read(0)
+            yield from self.reads(16, 17)
+
+    def far_phase(self):
+        """Long runs from screens of all sizes and from any state, and what shows right after them."""
+        rng = self.rng
+        yield from draw(rng, (
+            (48, self.tiny_frame), (10, self.least_frame), (28, self.plain_frame), (14, self.large_frame),
+        ))()
+        if self.chance(50):
+            yield from self.blinking()
+        for _ in range(rng.randrange(6, 24)):
+            if self.chance(50):
+                yield from draw(rng, (
+                    (36, self.lower), (20, self.cut_adjust), (10, self.set_syncs), (10, self.set_start),
+                    (8, self.set_r8), (6, self.blinking), (10, self.poke),
+                ))()
+            for _ in range(rng.choice((1, 1, 1, 2, 2, 3))):
+                if self.chance(14):
+                    yield from self.strobe(self.far())
+                else:
+                    yield self.far_run()
+            if self.chance(85):
+                yield from self.show()
 
 
 class Hostile:
@@ -1415,7 +1656,7 @@ class Hostile:
         return rng.choice((
             b"2201", b"2202040A", b"220305", b"22045A3C07", b"220500000010", b"2206",
             b"3201", b"32029C02", b"320384", b"3204FF00", b"32050000000A", b"3206",
-            b"4501", b"4502010F", b"450301", b"450401", b"450500000007",
+            b"4501", b"4502010F", b"450301", b"450401", b"450500000007", b"45070000000C",
         ))
 
     def digits(self, count):
@@ -1500,7 +1741,7 @@ def main():
     parser.add_argument("seed", type=int)
     parser.add_argument("lines", type=int)
     parser.add_argument("--max-run", type=int, default=HIGHEST_COUNT, metavar="N",
-                        help="bound for 6522 and 6532 run counts (default 4294967295)")
+                        help="bound for the counts of runs (default 4294967295)")
     parser.add_argument("--chip", choices=("22", "32", "45"), help="tell this chip's story alone")
     parser.add_argument("--hostile", type=float, default=4, metavar="PERCENT",
                         help="share of hostile lines (default 4)")

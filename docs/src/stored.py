@@ -8,14 +8,14 @@ same bytes come out each time. The session begins with document 01's worked
 one and goes on rule by rule: every kind of frame, every refusal with each of
 its causes, what is easy to get wrong, the twelve marked cases, lines that are
 no frame, each register of each chip, serial shifting, what each read cleared,
-forecasts across runs, the longest runs. After a call that changes something
-come calls that show it, for a bench that gets the rule wrong has to answer one
-of them differently. The last 30,000 lines are made by sessions.py; they reach
-other states, and make the session ten times as long as the program's buffer, so
-that a program that stops reading is found.
+a screen's turns and long runs, forecasts across runs, the longest runs. After a
+call that changes something come calls that show it, for a bench that gets the
+rule wrong has to answer one of them differently. The last 30,000 lines are made
+by sessions.py; they reach other states, and make the session ten times as long
+as the program's buffer, so that a program that stops reading is found.
 
 The longest runs are few: the reference also answers this session one clock at
-a time, and one such run of the 6522 alone takes it up to ten seconds.
+a time, and each such run of the 6522 or the 6545 takes it some ten seconds.
 """
 
 import sys
@@ -25,6 +25,8 @@ import sessions  # noqa: E402 (no cache of it is to be left in docs/src)
 
 VIA, RIOT, CRTC = 0x22, 0x32, 0x45
 LONGEST = 0xFFFFFFFF
+# The longest run of the 6545 that tells its turns.
+LONGEST_TOLD = 4_294_967_290
 
 
 # ------------------------------------------------------------------- frames
@@ -55,6 +57,11 @@ def run(chip, clocks):
 
 def forecast(chip):
     return frame(chip, 6)
+
+
+def told(clocks):
+    """A run of the 6545 that tells its turns."""
+    return frame(CRTC, 7, *clocks.to_bytes(4, "big"))
 
 
 def reads(chip, *addresses):
@@ -184,6 +191,7 @@ def every_frame():
     for chip, levels in ((VIA, (0x5A, 0xC3, 0x0A)), (RIOT, (0x3C, 0xA5)), (CRTC, (1,))):
         yield from (write(chip, 1, 0x0F), read(chip, 1), pins(chip, *levels), read(chip, 0), run(chip, 0),
                     run(chip, 1), run(chip, 200), forecast(chip), reset(chip), read(chip, 1), read(chip, 0))
+    yield from (told(0), told(1), told(200))
 
 
 def resets():
@@ -217,7 +225,7 @@ def no_frames():
                 yield frame(chip, call, *(0, 0, 0, 1, 1, 1, 1)[:operands])
         yield frame(chip)
     for chip in (0x00, 0x02, 0x20, 0x21, 0x23, 0x25, 0x30, 0x31, 0x33, 0x35, 0x44, 0x46, 0x54, 0xA2, 0xFF):
-        yield from (frame(chip, 1), frame(chip, 3, 1), frame(chip, 6), run(chip, 1))
+        yield from (frame(chip, 1), frame(chip, 3, 1), frame(chip, 6), run(chip, 1), frame(chip, 7, 0, 0, 0, 1))
 
 
 def no_such_register():
@@ -264,11 +272,18 @@ def levels_too_high():
 
 
 def runs_too_long():
-    """Refusal 6, and the longest run that is none."""
+    """Refusal 6, of a run that tells its turns; all is left as it was, and the pen's strobe still waits."""
     yield from screen(r0=99, r1=80, r2=84, r3=0x2A, r4=30, r5=6, r6=25, r7=28, r9=7, r10=0x20)
-    for count in (0x10000, 0x10001, 0x1FFFF, 0x20000, 0x1000000, 0x80000000, LONGEST - 1, LONGEST):
-        yield from (run(CRTC, count), run(CRTC, 0), read(CRTC, 0))
-    yield from (run(CRTC, 0xFFFF), read(CRTC, 0), run(CRTC, 0xFFFE), *pen_address())
+    yield from (run(CRTC, 2_345), pins(CRTC, 0), pins(CRTC, 1))
+    for count in range(LONGEST_TOLD + 1, LONGEST + 1):
+        yield from (told(count), run(CRTC, 0), told(0), read(CRTC, 0))
+    yield from (told(1), read(CRTC, 0), *read_crtc(16, 17))
+    # None of these is too long. At R0 = 0 the longest has more turns than any other run.
+    for count in (0xFFFF, 0x10000, 0x10001, 0x1FFFF, 0x20000, 0x100000, 0x1000000):
+        yield from (run(CRTC, count), read(CRTC, 0), told(count), *pen_address())
+    yield from screen(r0=0, r1=3, r2=255, r4=127, r5=31, r7=5, r9=31)
+    yield from (run(CRTC, 500), told(LONGEST_TOLD), told(0), read(CRTC, 0), *pen_address())
+    yield from (told(LONGEST_TOLD + 1), told(1), told(200), told(0x20000))
 
 
 # -------------------------------------------------------- easy to get wrong
@@ -348,7 +363,7 @@ def marked_cases():
 
 def hostile_lines():
     good = ("2201", "22020EC0", "22030D", "2204FFFF0F", "22050000000A", "2206", "32029C0A", "320384", "45020A0B",
-            "450500000007")
+            "450500000007", "45070000000C")
     for line in good:
         text = line.encode()
         yield from (text.lower(), text + b"\r", b"\r" + text, b" " + text, text + b" ", text + b"\t", b"\t" + text,
@@ -844,6 +859,143 @@ def crtc_pen():
                 read(CRTC, 0), *read_crtc(17), read(CRTC, 0), pins(CRTC, 1), run(CRTC, 1), read(CRTC, 0))
 
 
+# ------------------------------------------------------ long runs of the 6545
+
+def where():
+    """What tells where the 6545 stands: its lines over some clocks, its status, MA, and its next line ends."""
+    yield from (*clocks(CRTC, 3), read(CRTC, 0), *pen_address(), told(1), told(7), told(300))
+
+
+def crtc_turns():
+    """A run's turns: its line ends and one more, none for no clocks."""
+    # From every column, with lines of one clock and more: up to two line ends.
+    for r0 in (0, 1, 3):
+        yield from screen(r0=r0, r1=2, r2=1, r3=0x11, r4=1, r5=1, r6=1, r7=1, r9=1)
+        for count in range(2 * r0 + 4):
+            for _ in range(r0 + 1):
+                yield from (told(count), told(0), run(CRTC, (1 - count) % (r0 + 1)))
+    # Lines, rows and frames from a line's first column, its second, its last.
+    yield from screen(r0=9, r1=8, r2=8, r3=0x23, r4=3, r5=2, r6=3, r7=3, r9=2)
+    for count in (9, 10, 11, 20, 30, 90, 139, 140, 141, 1_399, 1_400, 1_401, 65_535, 65_536, 1_000_000, 1_000_009):
+        for before in (0, 1, 9):
+            yield from (reset(CRTC), run(CRTC, before), told(count), told(1), told(1))
+    # The turns of two parts come to one more than those of the whole, unless one of them has no clocks.
+    for first, second in ((0, 77), (77, 0), (7, 70), (40, 37), (76, 1), (123_450, 1), (1, 123_450), (60_000, 63_451)):
+        yield from (reset(CRTC), run(CRTC, 5), told(first), told(second), reset(CRTC), run(CRTC, 5), told(first + second))
+    # A column above R0 ends no line where it wraps, only when it comes to R0; with R0 = 255 that is the same clock.
+    for low in (0, 1, 4, 255):
+        for parts in ((250, 1, 1, 1, 1, 1, 1), (251, 3), (252, 2), (253, 4), (254, 1), (255, 1), (256, 1), (257,), (65_600, 1)):
+            yield from (*set_crtc(0, 9), reset(CRTC), run(CRTC, 5), *set_crtc(0, low), *(told(count) for count in parts))
+    # R0 at the column as it stands, one below it, and one above.
+    for near in (5, 4, 6):
+        yield from (*set_crtc(0, 9), reset(CRTC), run(CRTC, 5), *set_crtc(0, near), told(1), told(1), told(20))
+    # In adjust lines: up to R5, or all the way round where it was passed or is 0.
+    yield from screen(r0=4, r1=2, r2=255, r4=1, r5=5, r6=1, r7=127, r9=1)
+    for low in (5, 2, 0):
+        yield from (*set_crtc(5, 5), reset(CRTC), run(CRTC, 33), *set_crtc(5, low), told(10), told(160), told(4_000))
+
+
+# Small screens: one with every part, one with skewed signals and an HSYNC longer than a line, one addressed by row and
+# column, one with a VSYNC longer than a frame, and two whose frame is a line or a clock.
+SMALL_SCREENS = (
+    ({"r0": 3, "r1": 2, "r2": 2, "r3": 0x21, "r4": 1, "r5": 1, "r6": 1, "r7": 1, "r9": 1}, 20),
+    ({"r0": 4, "r1": 5, "r2": 3, "r3": 0x17, "r4": 1, "r5": 2, "r6": 2, "r7": 0, "r8": 0x30, "r9": 0}, 20),
+    ({"r0": 2, "r1": 2, "r2": 0, "r3": 0x32, "r4": 3, "r6": 3, "r7": 2, "r8": 0x04, "r9": 1, "r12": 0x3F, "r13": 0xFE}, 24),
+    ({"r0": 2, "r1": 3, "r2": 255, "r3": 0x00, "r4": 1, "r5": 1, "r6": 2, "r7": 1, "r8": 0x20, "r9": 1}, 15),
+    ({"r0": 3, "r1": 3, "r2": 3, "r3": 0x1F, "r6": 1, "r8": 0x10}, 4),
+    ({"r1": 1, "r3": 0x53, "r6": 1, "r8": 0x30}, 1),
+)
+
+
+def crtc_long_runs():
+    """Long runs, and single clocks, status and MA right after them."""
+    # Every clock of a frame after many frames, and the clock that follows.
+    for settings, length in SMALL_SCREENS:
+        start = settings.get("r12", 0) << 8 | settings.get("r13", 0)
+        yield from screen(r11=31, r14=start >> 8, r15=start & 255, **settings)
+        for offset in range(length + 1):
+            count = (32, 3_001, 70_000)[offset % 3] * length + offset
+            yield from (reset(CRTC), told(count) if offset % 2 else run(CRTC, count), run(CRTC, 1))
+            yield from (reset(CRTC), run(CRTC, offset), told(100_003), *clocks(CRTC, 2))
+        yield from where()
+    # About as many line ends as a bench may count one by one, from a line's second clock on.
+    yield from screen(r0=2, r1=2, r2=1, r3=0x82, r4=2, r5=1, r6=2, r7=2, r9=1, r11=31, r15=2)
+    for ends in (15, 16, 17, 31, 32, 33, 47, 48, 49, 63, 64, 65, 127, 128, 129):
+        for offset in (0, 1, 2):
+            yield from (reset(CRTC), run(CRTC, 1), told(3 * ends + offset), *clocks(CRTC, 3))
+    # One long run after another, with nothing between them.
+    for count in (65_536, 65_537, 1 << 20, 1_000_003):
+        yield from (told(count), run(CRTC, count), told(count), *where())
+
+
+def crtc_long_syncs():
+    """Pulses that a long run begins or ends, and such as go on over several lines or frames."""
+    # VSYNC's 16 lines in frames of 40 lines, each of one clock, from the line before it to the one after it.
+    yield from screen(r0=0, r3=0x00, r4=19, r7=3, r9=1)
+    for line in range(5, 24):
+        yield from (reset(CRTC), told(1_000 * 40 + line), *clocks(CRTC, 2))
+    # With nothing to begin them again, they end in time, however short the frames are on the way.
+    yield from screen(r0=1, r2=255, r3=0x00)
+    for lines in (1, 2, 14, 15, 16, 17, 33, 40_000):
+        yield from (*set_crtc(7, 0), reset(CRTC), run(CRTC, 2), *set_crtc(7, 127), told(2 * lines), *clocks(CRTC, 2))
+    yield from screen(r0=0, r3=0x1F, r7=127)
+    for count in (1, 2, 13, 14, 15, 16, 33, 70_000):
+        yield from (*set_crtc(2, 0), reset(CRTC), run(CRTC, 1), *set_crtc(2, 255), told(count), *clocks(CRTC, 2))
+    # A column above R0 begins HSYNC on its way to 255, or after it.
+    for r2, counts in ((200, (190, 192, 193, 200, 201)), (3, (251, 252, 253, 254, 255, 256, 257, 258))):
+        yield from screen(r0=9, r2=r2, r3=0x27, r4=9, r7=2)
+        for count in counts:
+            yield from (*set_crtc(0, 9), reset(CRTC), run(CRTC, 7), *set_crtc(0, 4), told(count), *clocks(CRTC, 2))
+
+
+def crtc_long_fields():
+    """The fields, of which there are 32, over long runs: the cursor blinks at a frame's first column."""
+    # Skewed, it shows a clock later; in frames of one clock it then shows what the field before let it.
+    for settings, length, late in (({"r0": 4, "r1": 5, "r4": 1, "r5": 1}, 15, 0),
+                                   ({"r0": 4, "r1": 5, "r4": 1, "r5": 1, "r8": 0x20}, 15, 1), ({"r1": 1, "r8": 0x20}, 1, 0)):
+        for shape in (0x40, 0x60):
+            yield from screen(r2=255, r6=2, r7=127, r10=shape, r11=31, **settings)
+            for fields in (7, 8, 15, 16, 17, 23, 24, 31, 32, 33, 48, 1_023, 1_024, 4_111, 65_560, 99_999):
+                yield from (reset(CRTC), run(CRTC, late), run(CRTC, length * fields), told(length), run(CRTC, 8 * length),
+                            told(16 * length))
+
+
+def crtc_long_odd():
+    """Long runs from counters above their registers, from adjust lines that R5 has left, and over a start rewritten."""
+    settings = {"r0": 9, "r1": 10, "r2": 8, "r3": 0x34, "r4": 5, "r5": 6, "r6": 4, "r7": 2, "r9": 3, "r10": 0x20}
+    yield from screen(**settings)
+    # The frame has 30 lines of 10 clocks, the last 6 of them adjust lines. A row above R4 passes 127 before 4,990 clocks.
+    for before, lowered in ((7, {0: 2}), (38, {9: 1}), (173, {4: 1}), (177, {0: 3, 4: 2, 9: 0}), (275, {5: 2}), (275, {5: 0}),
+                            (246, {5: 1}), (278, {0: 1, 5: 0}), (263, {4: 9, 9: 7})):
+        for count in (333, 4_990, 20_000, 1 << 20):
+            for register in lowered:
+                yield from set_crtc(register, settings[f"r{register}"])
+            yield from (reset(CRTC), run(CRTC, before))
+            for register, value in lowered.items():
+                yield from set_crtc(register, value)
+            yield from (told(count), *where())
+        for register in lowered:
+            yield from set_crtc(register, settings[f"r{register}"])
+    # The frame that is on goes by its own start, the later ones by the new one; rows grow by the new R1 at once.
+    for r8 in (0x00, 0x04):
+        for count in (160, 205, 123_456):
+            yield from (*set_crtc(8, r8), *set_crtc(12, 0), *set_crtc(13, 0), *set_crtc(1, 10), reset(CRTC), run(CRTC, 95),
+                        *set_crtc(12, 0x3F), *set_crtc(13, 0xF5), *set_crtc(1, 7), told(count), *where())
+
+
+def crtc_long_pen():
+    """A strobe is of a long run's first clock, whatever else the run does."""
+    for r8 in (0x00, 0x04):
+        yield from screen(r0=9, r1=10, r2=255, r4=3, r6=4, r7=127, r8=r8, r9=1, r10=0x20, r12=0x12, r13=0xFA)
+        for before, call in ((0, told(65_536)), (13, run(CRTC, 65_537)), (47, told(1_000_003)), (79, run(CRTC, 1 << 20)),
+                             (33, told(170)), (9, told(321))):
+            yield from (reset(CRTC), run(CRTC, before), pins(CRTC, 0), pins(CRTC, 1), run(CRTC, 0), told(0), read(CRTC, 0),
+                        call, read(CRTC, 0), *read_crtc(16, 17), read(CRTC, 0), *pen_address())
+        # While full a strobe still stores, and a run without one leaves what is stored.
+        yield from (pins(CRTC, 0), pins(CRTC, 1), told(70_000), pins(CRTC, 0), pins(CRTC, 1), told(70_003), read(CRTC, 0),
+                    told(70_001), read(CRTC, 0), *read_crtc(17, 16))
+
+
 # ---------------------------------------------------------- runs and the rest
 
 def forecasts_kept():
@@ -879,17 +1031,20 @@ def forecasts_kept():
 
 
 def longest_runs():
-    """T1 in both modes, T2, a byte in and one out, and a 6532 timer, each over 4,294,967,295 clocks; the 6545 has its own
-    limit."""
+    """T1 in both modes, T2, a byte in and one out, a 6532 timer and a screen, each over 4,294,967,295 clocks."""
     # The byte that goes out has its mark set, so that the run and the clock before it come to more than 32 bits hold.
     for acr, mode, before in ((0x80, IN_CLOCK, 0), (0xC0, OUT_CLOCK, 3)):
         yield from (*clean_shift(mode, others=acr, enables=0x7F), serial(1, 0), write(VIA, IFR, 0x7F), write(VIA, SR, 0xE4),
                     run(VIA, before), *load_t1(0x5BA7), *load_t2(0x2211), run(VIA, LONGEST),
                     *reads(VIA, PORT_B, T1_HIGH, T2_HIGH, IFR, T1_LOW, T2_LOW), *look_via())
     yield from (load_timer(3, 200, True), run(RIOT, LONGEST), forecast(RIOT), read(RIOT, FLAGS), read(RIOT, TIMER))
-    yield from (run(CRTC, 0xFFFF), read(CRTC, 0), run(CRTC, 0x10000), run(CRTC, LONGEST), read(CRTC, 0))
-    for chip, most in ((VIA, 1 << 20), (RIOT, 1 << 20), (CRTC, 1 << 15)):
-        for power in range(most.bit_length()):
+    # Column, scan line and row are above their registers when the run begins, so that the next frame begins after 18,746
+    # clocks, and then one every 4,224. At its first column the cursor tells the field.
+    yield from screen(r0=79, r1=64, r2=58, r3=0x8A, r4=38, r5=6, r6=25, r7=28, r9=7, r10=0x60, r11=7, r12=0x10, r14=0x10)
+    yield from (run(CRTC, 20_070), *set_crtc(0, 63), *set_crtc(4, 29), *set_crtc(9, 1), run(CRTC, LONGEST), read(CRTC, 0),
+                run(CRTC, 4_224 - (LONGEST - 18_746) % 4_224), *clocks(CRTC, 2), told(16 * 4_224 - 2), *where())
+    for chip in (VIA, RIOT, CRTC):
+        for power in range(21):
             yield from (run(chip, (1 << power) - 1), run(chip, 1 << power))
         yield from reads(chip, *((T1_HIGH, T1_LOW, T2_HIGH, T2_LOW, IFR) if chip == VIA else (0x84, 0x85) if chip == RIOT else (0,)))
 
@@ -911,8 +1066,8 @@ SECTIONS = (
     runs_too_long, easy_to_get_wrong, marked_cases, hostile_lines, via_registers, via_lines, via_edges,
     via_port_flags, via_timers, via_shift_modes, via_shift_clocks, via_shift_pulses, via_shift_inputs,
     via_shift_accesses, via_shift_switched, via_shift_forecasts, via_cleared, riot_memory, riot_addresses, riot_timer,
-    riot_pa7, riot_cleared, crtc_registers, crtc_screens, crtc_cursor, crtc_lowered, crtc_pen, forecasts_kept,
-    longest_runs, generated,
+    riot_pa7, riot_cleared, crtc_registers, crtc_screens, crtc_cursor, crtc_lowered, crtc_pen, crtc_turns,
+    crtc_long_runs, crtc_long_syncs, crtc_long_fields, crtc_long_odd, crtc_long_pen, forecasts_kept, longest_runs, generated,
 )
 
 

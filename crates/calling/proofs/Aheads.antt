@@ -6,7 +6,7 @@ use Rattle.clocks.specs.Forecasts.{numberOf, firstFrom}
 use Rattle.clocks.specs.declared.Forecast.{Forecast}
 use Rattle.clocks.proofs.Forecasts.{AtMost, first-is}
 use Rattle.replies.specs.declared.Reply.{Reply}
-use Rattle.replies.specs.declared.Reply.the-variants.{Ahead}
+use Rattle.replies.specs.declared.Reply.the-variants.{Number}
 use Rattle.chips.specs.Chips.{Chip, answer, Clocked, Lined, line, Foretold}
 use Rattle.chips.proofs.Chips.{Lawful, refuses-ill, reached-well}
 use Rattle.calls.specs.declared.Call22.the-variants as Via
@@ -33,7 +33,7 @@ module _ (C : Chip) (S : Lawful C) (T : Clocked C) (L : Lined C) (shown : C .Ans
 
   -- the reply to a forecast, by the number that was promised and by the one that looking ahead finds
   abbrev ahead : ℕ → C .Answer → Reply
-  ahead n a = replied (C .number a) (Ahead (shown a) n)
+  ahead n a = replied (C .number a) (Number (shown a) n)
 
   ahead-is : ahead (numberOf f) r ≡ ahead (numberOf (firstFrom (suc m) 0 (λ k. line C T L k v))) (answer C (L .forecast) v)
   ahead-is = go (C .well v) refl
@@ -52,7 +52,7 @@ module _ (C : Chip) (S : Lawful C) (T : Clocked C) (L : Lined C) (shown : C .Ans
 
 pub ahead22-is :
     (v : Via) (f : Forecast) (r : Answer22.Answer) → Ranged v → Foretold Chip22.chip Chip22.clocked Chip22.lined v f r
-    → replied (r .refusal) (Ahead (lineOf (r .irq)) (numberOf f)) ≡ reply22 v Via.Forecast
+    → replied (r .refusal) (Number (lineOf (r .irq)) (numberOf f)) ≡ reply22 v Via.Forecast
 unfolding forecast22
 ahead22-is v f r h t =
     ahead-is Chip22.chip Lawful22.lawful Chip22.clocked Chip22.lined (λ (a : Answer22.Answer). lineOf (a .irq)) 65537 v f r
@@ -60,7 +60,7 @@ ahead22-is v f r h t =
 
 pub ahead32-is :
     (v : Riot) (f : Forecast) (r : Answer32.Answer) → v .io .timer .value < 256 → Foretold Chip32.chip Chip32.clocked Chip32.lined v f r
-    → replied (r .refusal) (Ahead (lineOf (r .irq)) (numberOf f)) ≡ reply32 v Riot.Forecast
+    → replied (r .refusal) (Number (lineOf (r .irq)) (numberOf f)) ≡ reply32 v Riot.Forecast
 unfolding forecast32
 ahead32-is v f r h t =
     ahead-is Chip32.chip Lawful32.lawful Chip32.clocked Chip32.lined (λ (a : Answer32.Answer). lineOf (a .irq)) 262144 v f r

@@ -2,10 +2,10 @@
 use mathlib.Core.Path.{_≡_}
 use mathlib.Core.Bool.{Bool}
 use mathlib.Core.List.{List}
-use Prim.Native.Nat.{ℕ}
+use Prim.Native.Nat.{ℕ, _%_}
 use Rattle.clocks.specs.Clocks.{if_then_else_}
 use Rattle.replies.specs.declared.Reply.{Reply}
-use Rattle.replies.specs.declared.Reply.the-variants.{Done, Data, Read}
+use Rattle.replies.specs.declared.Reply.the-variants.{Done, Data, Read, Number}
 use Rattle.calls.specs.declared.Call22.{Call22}
 use Rattle.calls.specs.declared.Call32.{Call32}
 use Rattle.calls.specs.declared.Call45.{Call45}
@@ -23,6 +23,7 @@ use Rattle.crtc6545.specs.Chip as Chip45
 use Rattle.crtc6545.specs.declared.Crtc.{Crtc}
 use Rattle.crtc6545.specs.declared.Answer as Answer45
 use Rattle.crtc6545.specs.declared.Reading as Reading45
+use Rattle.crtc6545.specs.declared.Running as Running45
 use Rattle.calling.specs.Told.{replied, lineOf, lines45, reply22, reply32, reply45}
 use Rattle.calling.specs.declared.After22.{After22}
 use Rattle.calling.specs.declared.After32.{After32}
@@ -61,6 +62,17 @@ data45 r =
     record {
       crtc = r .answer .crtc;
       reply = replied (r .answer .refusal) (shown45 (r .undriven) (lines45 (r .answer)) (r .answer .«data»));
+    }
+
+-- turns are shown where they are asked for; four bytes have room for all that can be
+abbrev pub turned45 : Bool → ℕ → ℕ → Reply
+turned45 counted lines turns = if counted then Number lines (turns % 4294967296) else Done lines
+
+abbrev pub ran45 : Bool → Running45.Running → After45
+ran45 counted r =
+    record {
+      crtc = r .answer .crtc;
+      reply = replied (r .answer .refusal) (turned45 counted (lines45 (r .answer)) (r .turns));
     }
 
 -- what a call leaves of a chip, and its reply

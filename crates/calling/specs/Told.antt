@@ -11,7 +11,7 @@ use Rattle.calls.specs.declared.Call32.the-variants as Riot
 use Rattle.calls.specs.declared.Call45.{Call45}
 use Rattle.calls.specs.declared.Call45.the-variants as Crtc
 use Rattle.replies.specs.declared.Reply.{Reply}
-use Rattle.replies.specs.declared.Reply.the-variants.{Refused, Done, Data, Read, Ahead}
+use Rattle.replies.specs.declared.Reply.the-variants.{Refused, Done, Data, Read, Number}
 use Rattle.chips.specs.Chips.{answer, line}
 use Rattle.via6522.specs.Chip as Chip22
 use Rattle.via6522.specs.declared.Via.{Via}
@@ -22,18 +22,20 @@ use Rattle.crtc6545.specs.declared.Crtc.{Crtc}
 use Rattle.crtc6545.specs.declared.Answer as Answer45
 
 -- what follows the line byte of an accepted call: nothing, the byte that was read, that byte and the mask of the flags that the read
--- cleared, or a forecast's number
+-- cleared, a forecast's number, or the number of turns
 pub data Kind : Type 0 where
   nothing : Kind
   a-byte : Kind
   a-byte-and-mask : ℕ → Kind
   a-forecast : Kind
+  turns : ℕ → Kind
 
 abbrev pub told : Kind → ℕ → ℕ → ℕ → Reply
 told nothing l d n = Done l
 told a-byte l d n = Data l d
 told (a-byte-and-mask m) l d n = Read l d m
-told a-forecast l d n = Ahead l n
+told a-forecast l d n = Number l n
+told (turns t) l d n = Number l t
 
 -- a refused call is answered by its number alone
 abbrev pub replied : ℕ → Reply → Reply
@@ -88,13 +90,13 @@ reply32 v c =
 
 -- ---- the 6545
 
--- a byte that nothing drives is not shown
+-- a byte that nothing drives is not shown, and turns are shown where they are asked for
 abbrev pub kind45 : Call45 → Crtc → Kind
 kind45 Crtc.Reset v = nothing
 kind45 (Crtc.Write a x) v = nothing
 kind45 (Crtc.Read a) v = if Chip45.readingOf a v .undriven then nothing else a-byte
 kind45 (Crtc.Pins pen) v = nothing
-kind45 (Crtc.Run n) v = nothing
+kind45 (Crtc.Run n counted) v = if counted then turns (Chip45.runningOf n counted v .turns) else nothing
 
 abbrev pub reply45 : Crtc → Call45 → Reply
 reply45 v c =

@@ -5,7 +5,7 @@ ghost use Prim.Native.Nat.{ℕ, _≤_};
 ghost use Rattle.clocks.specs.Clocks.{if_then_else_};
 ghost use Rattle.clocks.specs.Forecasts.{numberOf};
 ghost use Rattle.calling.specs.Told.{replied as repliedOf, lineOf, lines45 as lines45Of};
-ghost use Rattle.calling.specs.After.{done22 as done22Of, data22 as data22Of, done32 as done32Of, data32 as data32Of, done45 as done45Of, shown45, data45 as data45Of, after22, After, after45};
+ghost use Rattle.calling.specs.After.{done22 as done22Of, data22 as data22Of, done32 as done32Of, data32 as data32Of, done45 as done45Of, shown45, data45 as data45Of, turned45, ran45 as ran45Of, after22, After, after45};
 use calls::Call22;
 use calls::Call32;
 use calls::Call45;
@@ -58,9 +58,9 @@ fn read(irq: bool, data: u8, cleared: u8) -> Reply
 }
 
 fn ahead(refusal: u8, irq: bool, forecast: Forecast) -> Reply
-    ensures { λ r. ⌜ r ≡ repliedOf refusal (Reply.Ahead (lineOf irq) (numberOf forecast)) ⌝ }
+    ensures { λ r. ⌜ r ≡ repliedOf refusal (Reply.Number (lineOf irq) (numberOf forecast)) ⌝ }
 {
-    replied(refusal, Reply::Ahead(line(irq), forecast.number()))
+    replied(refusal, Reply::Number(line(irq), forecast.number()))
 }
 
 fn done22(answer: via6522::Answer) -> After22
@@ -209,6 +209,29 @@ fn data45(reading: crtc6545::Reading) -> After45
     }
 }
 
+// The turns of a run, where they are asked for.
+fn turned(counted: bool, lines: u8, turns: u64) -> Reply
+    ensures { λ r. ⌜ r ≡ turned45 counted lines turns ⌝ }
+{
+    if counted {
+        Reply::Number(lines, (turns % 4294967296) as u32)
+    } else {
+        Reply::Done(lines)
+    }
+}
+
+fn ran45(counted: bool, running: crtc6545::Running) -> After45
+    ensures { λ r. ⌜ r ≡ ran45Of counted running ⌝ }
+{
+    let answer = running.answer;
+    let crtc = answer.crtc;
+    let reply = turned(counted, lines45(answer), running.turns);
+    After45 {
+        crtc,
+        reply: replied(answer.refusal, reply),
+    }
+}
+
 pub fn on45(crtc: Crtc, call: Call45) -> After45
     ensures { λ r. ⌜ r ≡ after45 crtc call ⌝ }
 {
@@ -217,6 +240,6 @@ pub fn on45(crtc: Crtc, call: Call45) -> After45
         Call45::Write(address, value) => done45(crtc.write(address, value)),
         Call45::Read(address) => data45(crtc.read(address)),
         Call45::Pins(pen) => done45(crtc.pins(pen)),
-        Call45::Run(n) => done45(crtc.run(n)),
+        Call45::Run(n, counted) => ran45(counted, crtc.run_either(n, counted)),
     }
 }

@@ -34,4 +34,4 @@ Typed45 Crtc.Reset = Unit {0}
 Typed45 (Crtc.Write a x) = Byte a × Byte x
 Typed45 (Crtc.Read a) = Byte a
 Typed45 (Crtc.Pins pen) = Byte pen
-Typed45 (Crtc.Run n) = Clocks n
+Typed45 (Crtc.Run n counted) = Clocks n

@@ -20,11 +20,11 @@ pub enum Call32 {
     Forecast,
 }
 
-// A call of the 6545.
+// A call of the 6545; a run has a mark that says whether its turns are asked for.
 pub enum Call45 {
     Reset,
     Write(u8, u8),
     Read(u8),
     Pins(u8),
-    Run(u32),
+    Run(u32, bool),
 }

@@ -64,4 +64,4 @@ leaves-kept (Read a) v t e w =
 leaves-kept (Pins x) v t e w =
     let h = formed v w in
     well _ (record { raster = h .raster; r16 = h .r16; address = h .address; r17 = h .r17 })
-leaves-kept (Run n) v t e w = after-keeps (λ (u : Crtc). wellFormed u ≡ true) clockOf clock-kept n v w
+leaves-kept (Run n b) v t e w = after-keeps (λ (u : Crtc). wellFormed u ≡ true) clockOf clock-kept n v w

@@ -1,8 +1,8 @@
 -- The 6545 as a chip: what each call asks for, gives and leaves, and what an answer shows.
-use mathlib.Core.Bool.{false, _&&_}
+use mathlib.Core.Bool.{Bool, false, _&&_}
 use Prim.Native.Nat.{ℕ}
 use lib.Dec.{eqb, ltb}
-use Rattle.clocks.specs.Clocks.{after}
+use Rattle.clocks.specs.Clocks.{if_then_else_, after}
 use Rattle.chips.specs.Chips.{Chip, Clocked, first, answer}
 use Rattle.calls.specs.Calls.{Typed45}
 use Rattle.calls.specs.declared.Call45.{Call45}
@@ -11,11 +11,12 @@ use Rattle.raster.specs.Signals.{signalsOf}
 use Rattle.crtc6545.specs.Record.{wellFormed, powerUp, resetOf}
 use Rattle.crtc6545.specs.Access.{readAsks, dataOf, undrivenOf, readOf, writeAsks, writeOf}
 use Rattle.crtc6545.specs.Pins.{pinsAsks, pinsOf}
-use Rattle.crtc6545.specs.Clock.{clockOf, longestRun, runAsks}
+use Rattle.crtc6545.specs.Clock.{clockOf, turnsOf, longestRun, runAsks}
 use Rattle.crtc6545.specs.Signals.{shownDe, shownCursor}
 use Rattle.crtc6545.specs.declared.Crtc.{Crtc}
 use Rattle.crtc6545.specs.declared.Answer.{Answer}
 use Rattle.crtc6545.specs.declared.Reading.{Reading}
+use Rattle.crtc6545.specs.declared.Running.{Running}
 
 -- the refusal that the operands of a call ask for, 0 for none
 abbrev pub asksOf : Call45 → Crtc → ℕ
@@ -23,7 +24,7 @@ asksOf Reset v = 0
 asksOf (Write a x) v = writeAsks a x v
 asksOf (Read a) v = readAsks a
 asksOf (Pins x) v = pinsAsks x
-asksOf (Run n) v = runAsks n
+asksOf (Run n counted) v = runAsks n counted
 
 -- the byte that a call reads, and the record that it leaves
 abbrev pub givesOf : Call45 → Crtc → ℕ
@@ -31,14 +32,14 @@ givesOf Reset v = 0
 givesOf (Write a x) v = 0
 givesOf (Read a) v = dataOf a v
 givesOf (Pins x) v = 0
-givesOf (Run n) v = 0
+givesOf (Run n counted) v = 0
 
 abbrev pub leavesOf : Call45 → Crtc → Crtc
 leavesOf Reset v = resetOf v
 leavesOf (Write a x) v = writeOf a x v
 leavesOf (Read a) v = readOf a v
 leavesOf (Pins x) v = pinsOf x v
-leavesOf (Run n) v = after n clockOf v
+leavesOf (Run n counted) v = after n clockOf v
 
 -- an accepted call: the data, and the lines of the record as it leaves it; a sync is active while some of it is left
 unfoldable pub accepted : ℕ → Crtc → Answer
@@ -88,9 +89,18 @@ chip =
       left = λ r. r .crtc;
     }
 
-abbrev pub clocked : Clocked chip
-clocked = record { rule = clockOf; run = λ n. Run n; longest = longestRun }
+-- its runs, those whose turns are asked for and the others
+abbrev pub clocked : Bool → Clocked chip
+clocked counted = record { rule = clockOf; run = λ n. Run n counted; longest = longestRun counted }
 
 -- a read: the answer to the call, and a mark that is clear where it is refused
 unfoldable pub readingOf : ℕ → Crtc → Reading
 readingOf a v = record { undriven = eqb (first chip (Read a) v) 0 && undrivenOf a v; answer = answer chip (Read a) v }
+
+-- a run: the answer to the call, and its turns, none where it is refused
+unfoldable pub runningOf : ℕ → Bool → Crtc → Running
+runningOf n counted v =
+    record {
+      turns = if eqb (first chip (Run n counted) v) 0 then turnsOf n (v .raster) else 0;
+      answer = answer chip (Run n counted) v;
+    }

@@ -1,11 +1,12 @@
--- One clock, and the runs that are refused.
-use mathlib.Core.Bool.{true, false}
-use Prim.Native.Nat.{ℕ, _/_, _%_}
-use lib.Dec.{ltb}
+-- One clock, the turns of many, and the runs that are refused.
+use mathlib.Core.Bool.{Bool, true, false, _&&_}
+use Prim.Native.Nat.{ℕ, zero, suc, _+_, _-_, _/_, _%_}
+use lib.Dec.{eqb, ltb}
 use Rattle.clocks.specs.Clocks.{if_then_else_}
 use Rattle.raster.specs.Clock.{rasterClocked}
 use Rattle.raster.specs.Signals.{signalsOf}
 use Rattle.raster.specs.declared.Raster.{Raster}
+use Rattle.longruns.specs.Ends.{endsOf}
 use Rattle.crtc6545.specs.declared.Light.{Light}
 use Rattle.crtc6545.specs.declared.Kept.{Kept}
 use Rattle.crtc6545.specs.declared.Crtc.{Crtc}
@@ -31,9 +32,19 @@ clockOf v =
       kept = keptOf (v .raster);
     }
 
--- a run above this many clocks is refused with 6
-abbrev pub longestRun : ℕ
-longestRun = 65535
+-- the turns of n clocks: one more than the line ends that they pass, and none where there is no clock
+unfoldable pub turnsOf : ℕ → Raster → ℕ
+turnsOf zero v = 0
+turnsOf (suc n) v = endsOf (suc n) v + 1
 
-abbrev pub runAsks : ℕ → ℕ
-runAsks n = if ltb longestRun n then 6 else 0
+-- the turns of two runs as one: the turn that the first one ends in is the one that the second goes on with
+abbrev pub joined : ℕ → ℕ → ℕ
+joined x y = if eqb x 0 then y else if eqb y 0 then x else x + y - 1
+
+-- the most clocks of a run: where its turns are asked for, their number has to fit four bytes
+abbrev pub longestRun : Bool → ℕ
+longestRun counted = if counted then 4294967290 else 4294967295
+
+-- above that a run that is counted is refused with 6; of one that is not, every number that a call can have is taken
+abbrev pub runAsks : ℕ → Bool → ℕ
+runAsks n counted = if counted && ltb (longestRun true) n then 6 else 0

@@ -1,7 +1,7 @@
-// The pen's strobe, and n clocks.
+// The pen's strobe, n clocks, and their turns.
 ghost use mathlib.Core.Path.{_≡_};
 ghost use Rattle.clocks.specs.Clocks.{after};
-ghost use Rattle.crtc6545.specs.Clock.{strobed as strobedOf, clockOf};
+ghost use Rattle.crtc6545.specs.Clock.{strobed as strobedOf, clockOf, turnsOf};
 use crate::Crtc;
 use crate::Kept;
 use crate::Light;
@@ -32,15 +32,25 @@ impl Crtc {
         let raster = self.raster;
         let light = self.light;
         let first = raster.signals();
-        let last = raster.run(n - 1);
+        let last = longruns::run(raster, n - 1);
         let signals = last.signals();
         let kept = Kept {
             de: signals.de,
             cursor: signals.cursor,
         };
-        self.raster = last.run(1);
+        self.raster = last.clocked();
         self.light = light.strobed(first.ma);
         self.kept = kept;
         self
+    }
+
+    pub(crate) fn turns_of(self, n: u32) -> u64
+        ensures { λ r. ⌜ r ≡ turnsOf n (self .raster) ⌝ }
+    {
+        if n == 0 {
+            return 0;
+        }
+        let raster = self.raster;
+        longruns::ends(raster, n) as u64 + 1
     }
 }

@@ -1,9 +1,10 @@
 // The 6545: the raster of the screen, its lines as R8 shows them, and the light pen. A call takes the record and hands it back inside its answer.
 ghost use mathlib.Core.Path.{_≡_};
+ghost use mathlib.Core.Bool.{true, false};
 ghost use Rattle.clocks.specs.Clocks.{if_then_else_};
 ghost use Rattle.chips.specs.Chips.{answer};
 ghost use Rattle.crtc6545.specs.Record.{wellFormed, powerUp};
-ghost use Rattle.crtc6545.specs.Chip.{chip, accepted as acceptedOf, refused as refusedOf, readingOf};
+ghost use Rattle.crtc6545.specs.Chip.{chip, accepted as acceptedOf, refused as refusedOf, readingOf, runningOf};
 use calls::Call45;
 use clocks::bit;
 use clocks::choose8;
@@ -54,9 +55,15 @@ pub struct Reading {
     pub answer: Answer,
 }
 
+// What a run gives back: its turns are the line ends that it passed and one more, and 0 where it is refused or has no clock.
+pub struct Running {
+    pub turns: u64,
+    pub answer: Answer,
+}
+
 impl Crtc {
-    // The most clocks of one run.
-    pub const LONGEST_RUN: u32 = 65535;
+    // The most clocks of a run whose turns are asked for.
+    pub const LONGEST_COUNTED: u32 = 4294967290;
 
     pub fn power_up() -> Crtc
         ensures { λ r. ⌜ r ≡ powerUp ⌝ }
@@ -195,19 +202,42 @@ impl Crtc {
     }
 
     pub fn clock(self) -> Answer
-        ensures { λ r. ⌜ r ≡ answer chip (Call45.Run 1) self ⌝ }
+        ensures { λ r. ⌜ r ≡ answer chip (Call45.Run 1 false) self ⌝ }
     {
-        self.run(1)
+        let running = self.run(1);
+        let answer = running.answer;
+        answer
     }
 
-    pub fn run(self, n: u32) -> Answer
-        ensures { λ r. ⌜ r ≡ answer chip (Call45.Run n) self ⌝ }
+    pub fn run(self, n: u32) -> Running
+        ensures { λ r. ⌜ r ≡ runningOf n false self ⌝ }
     {
-        let number = self.refusal(choose8(Crtc::LONGEST_RUN < n, 6, 0));
+        self.run_either(n, false)
+    }
+
+    // A run whose turns are asked for.
+    pub fn turns(self, n: u32) -> Running
+        ensures { λ r. ⌜ r ≡ runningOf n true self ⌝ }
+    {
+        self.run_either(n, true)
+    }
+
+    // Both of these in one place, for a caller that has the mark: a second call site would keep the run from being compiled into it.
+    pub fn run_either(self, n: u32, counted: bool) -> Running
+        ensures { λ r. ⌜ r ≡ runningOf n counted self ⌝ }
+    {
+        let long = counted & (Crtc::LONGEST_COUNTED < n);
+        let number = self.refusal(choose8(long, 6, 0));
         if number != 0 {
-            return self.refused(number);
+            return Running {
+                turns: 0,
+                answer: self.refused(number),
+            };
         }
         let next = self.ran(n);
-        next.accepted(0)
+        Running {
+            turns: self.turns_of(n),
+            answer: next.accepted(0),
+        }
     }
 }

@@ -61,7 +61,8 @@ module _ (op : ℕ) (s : List ℕ) (b : (k : ℕ) → byte k s < 256) where
       (row Typed op 2 2 s tt (b 0, b 1)
       (row Typed op 3 1 s tt (b 0)
       (row Typed op 4 1 s tt (b 0)
-      (row Typed op 5 4 s tt (clocks-small s b) tt))))
+      (row Typed op 5 4 s tt (clocks-small s b)
+      (row Typed op 7 4 s tt (clocks-small s b) tt)))))
 
 typed-bytes : (s : List ℕ) → areBytes s ≡ true → Typed (ofBytes s)
 typed-bytes [] e = tt
@@ -156,4 +157,5 @@ frames-said (To45 Crtc.Reset) t = asked 0x45 0x01 no-more refl refl
 frames-said (To45 (Crtc.Write a x)) t = asked 0x45 0x02 (below (t .0) (below (t .1) no-more)) refl refl
 frames-said (To45 (Crtc.Read a)) t = asked 0x45 0x03 (below t no-more) refl refl
 frames-said (To45 (Crtc.Pins pen)) t = asked 0x45 0x04 (below t no-more) refl refl
-frames-said (To45 (Crtc.Run n)) t = asked 0x45 0x05 (count-bytes n) refl refl ∙ ap (λ (k : ℕ). To45 (Crtc.Run k)) (count-back n t)
+frames-said (To45 (Crtc.Run n false)) t = asked 0x45 0x05 (count-bytes n) refl refl ∙ ap (λ (k : ℕ). To45 (Crtc.Run k false)) (count-back n t)
+frames-said (To45 (Crtc.Run n true)) t = asked 0x45 0x07 (count-bytes n) refl refl ∙ ap (λ (k : ℕ). To45 (Crtc.Run k true)) (count-back n t)

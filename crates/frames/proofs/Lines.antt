@@ -185,10 +185,10 @@ module _ (w chip op : ℕ) (e : w ≡ chip * 256 + op) where
   pub three-other : (x y z : ℕ) → (w ≡ 0x2204 → ⊥) → ofBytes (chip ∷ op ∷ x ∷ y ∷ z ∷ []) ≡ Unknown
   three-other x y z a = by-chip (x ∷ y ∷ z ∷ []) (λ h. rw (differs 0x22 0x04 h a) (simp either-same)) (λ h. simp either-same) (λ h. simp either-same)
 
-  pub four-other : (x y z v : ℕ) → (w ≡ 0x2205 → ⊥) → (w ≡ 0x3205 → ⊥) → (w ≡ 0x4505 → ⊥) → ofBytes (chip ∷ op ∷ x ∷ y ∷ z ∷ v ∷ []) ≡ Unknown
-  four-other x y z v a b c =
+  pub four-other : (x y z v : ℕ) → (w ≡ 0x2205 → ⊥) → (w ≡ 0x3205 → ⊥) → (w ≡ 0x4505 → ⊥) → (w ≡ 0x4507 → ⊥) → ofBytes (chip ∷ op ∷ x ∷ y ∷ z ∷ v ∷ []) ≡ Unknown
+  four-other x y z v a b c d =
       by-chip (x ∷ y ∷ z ∷ v ∷ []) (λ h. rw (differs 0x22 0x05 h a) (simp either-same)) (λ h. rw (differs 0x32 0x05 h b) (simp either-same))
-      (λ h. rw (differs 0x45 0x05 h c) (simp either-same))
+      (λ h. rw (differs 0x45 0x05 h c, differs 0x45 0x07 h d) (simp either-same))
 
 -- ---- other lines
 

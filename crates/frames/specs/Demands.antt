@@ -2,6 +2,7 @@
 use Prim.Native.Nat.{ℕ, _/_, _%_}
 use mathlib.Core.Path.{_≡_}
 use mathlib.Core.List.{List, [], _∷_, _++_}
+use Rattle.clocks.specs.Clocks.{if_then_else_}
 use Rattle.calls.specs.Calls.{Typed22, Typed32, Typed45}
 use Rattle.calls.specs.declared.Call22.{Call22}
 use Rattle.calls.specs.declared.Call22.the-variants as Via
@@ -50,7 +51,7 @@ bytes45 Crtc.Reset = 0x45 ∷ 0x01 ∷ []
 bytes45 (Crtc.Write a x) = 0x45 ∷ 0x02 ∷ a ∷ x ∷ []
 bytes45 (Crtc.Read a) = 0x45 ∷ 0x03 ∷ a ∷ []
 bytes45 (Crtc.Pins pen) = 0x45 ∷ 0x04 ∷ pen ∷ []
-bytes45 (Crtc.Run n) = 0x45 ∷ 0x05 ∷ count n
+bytes45 (Crtc.Run n counted) = 0x45 ∷ (if counted then 0x07 else 0x05) ∷ count n
 
 abbrev pub frameBytes : Frame → List ℕ
 frameBytes Unknown = []

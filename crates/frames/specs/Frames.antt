@@ -1,6 +1,6 @@
 -- The frame that a line is.
 use Prim.Native.Nat.{ℕ, _+_, _*_}
-use mathlib.Core.Bool.{Bool, true, _&&_}
+use mathlib.Core.Bool.{Bool, true, false, _&&_}
 use mathlib.Core.List.{List, [], _∷_}
 use lib.Dec.{ltb, leb, eqb}
 use lib.ListN.{length, getD}
@@ -60,7 +60,8 @@ of45 op s =
     if eqb op 0x02 then with 2 s (To45 (Crtc.Write (byte 0 s) (byte 1 s))) else
     if eqb op 0x03 then with 1 s (To45 (Crtc.Read (byte 0 s))) else
     if eqb op 0x04 then with 1 s (To45 (Crtc.Pins (byte 0 s))) else
-    if eqb op 0x05 then with 4 s (To45 (Crtc.Run (clocks s))) else
+    if eqb op 0x05 then with 4 s (To45 (Crtc.Run (clocks s) false)) else
+    if eqb op 0x07 then with 4 s (To45 (Crtc.Run (clocks s) true)) else
     Unknown
 
 -- the chip's byte, the operation's, and the operands

@@ -107,7 +107,8 @@ fn four(line: &[u8]) -> Frame
     match word_at(line, 0) {
         0x2205 => Frame::To22(Call22::Run(clocks)),
         0x3205 => Frame::To32(Call32::Run(clocks)),
-        0x4505 => Frame::To45(Call45::Run(clocks)),
+        0x4505 => Frame::To45(Call45::Run(clocks, false)),
+        0x4507 => Frame::To45(Call45::Run(clocks, true)),
         _ => Frame::Unknown,
     }
 }

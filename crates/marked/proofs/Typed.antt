@@ -62,11 +62,11 @@ typed45 Crtc.Reset = true
 typed45 (Crtc.Write a x) = byte a && byte x
 typed45 (Crtc.Read a) = byte a
 typed45 (Crtc.Pins pen) = byte pen
-typed45 (Crtc.Run n) = clocks n
+typed45 (Crtc.Run n counted) = clocks n
 
 pub is-typed45 : (c : Call45) → typed45 c ≡ true → Typed45 c
 is-typed45 Crtc.Reset e = tt
 is-typed45 (Crtc.Write a x) e = two a x e
 is-typed45 (Crtc.Read a) e = ltb-true a 256 e
 is-typed45 (Crtc.Pins pen) e = ltb-true pen 256 e
-is-typed45 (Crtc.Run n) e = ltb-true n 4294967296 e
+is-typed45 (Crtc.Run n counted) e = ltb-true n 4294967296 e

@@ -1,4 +1,5 @@
 -- The twelve marked cases, in document 01's order.
+use mathlib.Core.Bool.{false}
 use mathlib.Core.List.{List, [], _∷_, _++_}
 use Prim.Native.Nat.{ℕ, _/_, _%_}
 use Rattle.calls.specs.declared.Call22.{Call22}
@@ -47,7 +48,7 @@ registers [] = []
 registers (r ∷ rs) = Crtc.Write 0 (r .0) ∷ Crtc.Write 1 (r .1) ∷ registers rs
 
 abbrev pub run45 : ℕ → List Call45
-run45 n = Crtc.Run n ∷ []
+run45 n = Crtc.Run n false ∷ []
 
 -- The fourth has T1 pass zero with its first clock, so that a reload is to come, and then gives it the latch; the fifth has T2 wrap
 -- with its first clock, which disarms it. The last two run to their place: two lines of 4 clocks and 1 clock more, and 23 rows of

@@ -86,19 +86,19 @@ module _ (r : Registers) (b0 : r .r0 < 256) (b2 : r .r2 < 256) (l : Line) (b : l
           unfold rasterClocked alongOf in
           ap₂ (raster r) (along-more k (omega arith)) (on-false (eqb ((l .column + k) % 256) (r .r0)) (lineEnded r f) f e)
 
-  abbrev last : Line
+  abbrev pub last : Line
   last = alongOf (gap (l .column) (r .r0)) r l
 
-  at-end : eqb (last .column) (r .r0) ≡ true
+  pub at-end : eqb (last .column) (r .r0) ≡ true
   unfolding alongOf
   at-end = eq-eqb ((l .column + gap (l .column) (r .r0)) % 256) (r .r0) (omega arith)
 
-  end-column : lineClocked r last .column ≡ 0
+  pub end-column : lineClocked r last .column ≡ 0
   unfolding lineClocked
   end-column = on-true (eqb (last .column) (r .r0)) 0 _ at-end
 
   -- n clocks that pass the end of the line
-  past-after :
+  pub past-after :
       (f : Frame) (n : ℕ) → gap (l .column) (r .r0) < n
       → after n rasterClocked (raster r l f)
       ≡ after (n - gap (l .column) (r .r0) - 1) rasterClocked (raster r (lineClocked r last) (lineEnded r f))

@@ -55,7 +55,7 @@ impl Line {
 }
 
 impl Frame {
-    fn new_frame(self, registers: Registers) -> Frame
+    pub fn new_frame(self, registers: Registers) -> Frame
         ensures { λ r. ⌜ r ≡ newFrame registers self ⌝ }
     {
         let start = registers.start();

@@ -120,6 +120,20 @@ impl Raster {
         self
     }
 
+    pub fn clocked(mut self) -> Raster
+        ensures { λ r. ⌜ r ≡ rasterClocked self ⌝ }
+    {
+        let registers = self.registers;
+        let line = self.line;
+        let frame = self.frame;
+        self.line = line.clocked(registers);
+        if line.column == registers.r0 {
+            self.frame = frame.line_ended(registers);
+            return self;
+        }
+        self
+    }
+
     // n clocks, a line at a time: `ahead` is how many come before the one that ends the line.
     pub fn run(mut self, n: u32) -> Raster
         ensures { λ r. ⌜ r ≡ after n rasterClocked self ⌝ }

@@ -11,7 +11,7 @@ use Rattle.clocks.proofs.Lists.{drop-later}
 use Rattle.replies.specs.Hex.{hexOf}
 use Rattle.replies.specs.Replies.{told, Appended}
 use Rattle.replies.specs.declared.Reply.{Reply}
-use Rattle.replies.specs.declared.Reply.the-variants.{Refused, Done, Data, Read, Ahead}
+use Rattle.replies.specs.declared.Reply.the-variants.{Refused, Done, Data, Read, Number}
 
 -- the longest reply has six bytes, of two digits each
 pub told-short : (r : Reply) → length (told r) ≤ 12
@@ -20,7 +20,7 @@ told-short (Refused n) = omega arith
 told-short (Done l) = omega arith
 told-short (Data l b) = omega arith
 told-short (Read l b m) = omega arith
-told-short (Ahead l n) = omega arith
+told-short (Number l n) = omega arith
 
 -- one byte, and two, stored in a buffer
 module _ (l : List ℕ) (at x : ℕ) where

@@ -5,15 +5,16 @@ use mathlib.Core.List.{List, [], _∷_, _++_}
 use lib.ListN.{length, take, drop}
 use Rattle.replies.specs.Hex.{hexOf, longOf}
 use Rattle.replies.specs.declared.Reply.{Reply}
-use Rattle.replies.specs.declared.Reply.the-variants.{Refused, Done, Data, Read, Ahead}
+use Rattle.replies.specs.declared.Reply.the-variants.{Refused, Done, Data, Read, Number}
 
--- a refusal is its number alone; all else is 00, the line byte, and what was read, with the mask where there is one, or forecast
+-- a refusal is its number alone; all else is 00, the line byte, and what was read, with the mask where there is one, or a number: a forecast,
+-- or turns
 unfoldable pub told : Reply → List ℕ
 told (Refused n) = hexOf n
 told (Done l) = hexOf 0 ++ hexOf l
 told (Data l b) = hexOf 0 ++ hexOf l ++ hexOf b
 told (Read l b m) = hexOf 0 ++ hexOf l ++ hexOf b ++ hexOf m
-told (Ahead l n) = hexOf 0 ++ hexOf l ++ longOf n
+told (Number l n) = hexOf 0 ++ hexOf l ++ longOf n
 
 -- each line ends in LF
 unfoldable pub render : Reply → List ℕ

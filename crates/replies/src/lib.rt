@@ -6,13 +6,13 @@ use puts::put_told;
 mod puts;
 
 // What a frame gets: a refusal's number; or the line byte, alone, before a byte that was read, before such a byte and the mask of the
-// flags that the read cleared, or before a forecast's number.
+// flags that the read cleared, or before a number of four bytes, a forecast's or that of a run's turns.
 pub enum Reply {
     Refused(u8),
     Done(u8),
     Data(u8, u8),
     Read(u8, u8, u8),
-    Ahead(u8, u32),
+    Number(u8, u32),
 }
 
 // Puts a reply after the first `at` bytes, and gives the place after it; without 13 free bytes it puts nothing.

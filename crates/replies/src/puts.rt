@@ -58,7 +58,7 @@ pub(crate) fn put_told(out: &mut [u8], at: usize, reply: Reply) -> usize
             let c = put_byte(out, a, b);
             put_byte(out, c, cleared)
         }
-        Reply::Ahead(line, n) => {
+        Reply::Number(line, n) => {
             let a = put_done(out, at, line);
             put_long(out, a, n)
         }

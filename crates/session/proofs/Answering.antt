@@ -12,7 +12,7 @@ use Rattle.replies.specs.Hex.{digitOf, hexOf, longOf}
 use Rattle.frames.specs.Frames.{frameOf}
 use Rattle.replies.specs.Replies.{told, render}
 use Rattle.replies.specs.declared.Reply.{Reply}
-use Rattle.replies.specs.declared.Reply.the-variants.{Refused, Done, Data, Read, Ahead}
+use Rattle.replies.specs.declared.Reply.the-variants.{Refused, Done, Data, Read, Number}
 use Rattle.session.specs.Steps.{powerUp, stepOf}
 use Rattle.lines.specs.Lines.{ended, open-line, linesOf, fileOf, Quiet, Quiets}
 use Rattle.lines.proofs.Lines.{quiet-append}
@@ -45,7 +45,7 @@ told-quiet (Refused n) = hex-quiet n
 told-quiet (Done l) = quiet-append _ _ (hex-quiet 0) (hex-quiet l)
 told-quiet (Data l b) = quiet-append _ _ (quiet-append _ _ (hex-quiet 0) (hex-quiet l)) (hex-quiet b)
 told-quiet (Read l b m) = quiet-append _ _ (quiet-append _ _ (quiet-append _ _ (hex-quiet 0) (hex-quiet l)) (hex-quiet b)) (hex-quiet m)
-told-quiet (Ahead l n) = quiet-append _ _ (quiet-append _ _ (hex-quiet 0) (hex-quiet l)) (long-quiet n)
+told-quiet (Number l n) = quiet-append _ _ (quiet-append _ _ (hex-quiet 0) (hex-quiet l)) (long-quiet n)
 
 render-line : (r : Reply) → Line (render r)
 unfolding render

@@ -13,7 +13,7 @@ use Rattle.frames.specs.declared.Frame.{Frame}
 use Rattle.frames.specs.declared.Frame.the-variants.{Unknown, To22, To32, To45}
 use Rattle.frames.proofs.Demands.{frames-typed}
 use Rattle.replies.specs.declared.Reply.{Reply}
-use Rattle.replies.specs.declared.Reply.the-variants.{Refused, Done, Data, Read, Ahead}
+use Rattle.replies.specs.declared.Reply.the-variants.{Refused, Done, Data, Read, Number}
 use Rattle.chips.specs.Chips as Chips
 use Rattle.chips.specs.Chips.{Chip, answer, at-power-up, by}
 use Rattle.chips.proofs.Chips.{Lawful, reached-well, answers}
@@ -23,7 +23,7 @@ use Rattle.riot6532.specs.Chip as Chip32
 use Rattle.riot6532.proofs.Lawful as Lawful32
 use Rattle.crtc6545.specs.Chip as Chip45
 use Rattle.crtc6545.proofs.Lawful as Lawful45
-use Rattle.calling.specs.Told.{Kind, nothing, a-byte, a-byte-and-mask, a-forecast, told, replied, kind22, kind32, kind45}
+use Rattle.calling.specs.Told.{Kind, nothing, a-byte, a-byte-and-mask, a-forecast, turns, told, replied, kind22, kind32, kind45}
 use Rattle.session.specs.Steps.{powerUp, stepOf}
 use Rattle.session.specs.Sessions.{nextOf, nextAll}
 use Rattle.session.specs.Demands
@@ -60,7 +60,7 @@ number (Refused n) = n
 number (Done l) = 0
 number (Data l x) = 0
 number (Read l x m) = 0
-number (Ahead l n) = 0
+number (Number l n) = 0
 
 told-none : (k : Kind) (l d n : ℕ) → number (told k l d n) ≡ 0
 unfolding number
@@ -68,6 +68,7 @@ told-none nothing l d n = refl
 told-none a-byte l d n = refl
 told-none (a-byte-and-mask m) l d n = refl
 told-none a-forecast l d n = refl
+told-none (turns t) l d n = refl
 
 number-replied : (n : ℕ) (k : Kind) (l d x : ℕ) → number (replied n (told k l d x)) ≡ n
 unfolding number

@@ -3,7 +3,7 @@ use mathlib.Core.Path.{_∙_, ap}
 use Rattle.crtc6545.specs.declared.Answer.{Answer}
 use Rattle.crtc6545.specs.declared.Reading.{Reading}
 use Rattle.calling.specs.After.{done45, data45}
-use Rattle.calling.proofs.Told.{read45}
+use Rattle.calling.proofs.Told.{read45, run45}
 use Rattle.calling.proofs.on45.Statement.{statement}
 use Rattle.calling.proofs.on45.Tie as tie
 
@@ -23,7 +23,8 @@ returns-4 : tie.Need-returns-4
 returns-4 c = c .done453 .ensures ∙ ap (λ (a : Answer). done45 a) (c .before .pins .ensures) ∙ rw (c .before .before .before .call3 .given .1)
 
 returns-5 : tie.Need-returns-5
-returns-5 c = c .done454 .ensures ∙ ap (λ (a : Answer). done45 a) (c .before .run .ensures) ∙ rw (c .before .before .before .call4 .given .1)
+returns-5 c =
+    c .ran45 .ensures ∙ run45 _ _ _ _ (c .before .run-either .ensures) ∙ rw (c .before .before .before .call4 .given .1)
 
 pub on45-spec : {M : Type 1} → statement M
 on45-spec = tie.close (tie.spec (λ c. search needs) (λ c κs. search needs) (λ c κs. search needs) (λ c. search needs) (λ c κs. search needs) (λ c κs. search needs) (λ c. search needs) (λ c κs. search needs) (λ c κs. search needs) (λ c. search needs) (λ c κs. search needs) (λ c κs. search needs) (λ c. search needs) (λ c κs. search needs) (λ c κs. search needs) returns returns-2 returns-3 returns-4 returns-5)

@@ -2,6 +2,7 @@ use borrow.Author.Needs.{needs}
 use denote.Ref.{now}
 use lib.Dec.{lit<, lit≤}
 use mathlib.Core.Path.{ap, _∙_}
+use mathlib.Core.Bool.{true, false}
 use native.Mathlib.Omega.{arith}
 use Prim.Native.Nat.{ℕ}
 use Rattle.calls.specs.declared.Call22.the-variants as Via
@@ -56,16 +57,28 @@ returns-5 c =
     let l = now (s .args .line) in
     let e = a .word-at .ensures in
     let f = d .before .before .word-at2 .ensures in
-    ap (λ (n : ℕ). To45 (Crtc.Run n)) (count-is l _ _ e f)
+    ap (λ (n : ℕ). To45 (Crtc.Run n false)) (count-is l _ _ e f)
     ∙ found _ 4 (s .pre) (lit≤ tt) _ (d .word-at3 .ensures) 0x45 0x05 (lit< tt, lit< tt) (c .match .keys3)
     (word-bytes l 4 _ e (d .before .before .before .if1 .left) (word-bytes l 8 _ f (d .before .if2 .left) no-more))
 
 returns-6 : tie.Need-returns-6
 returns-6 c =
     let d = c .before in
+    let a = d .before .before .before .before in
+    let s = a .before .before in
+    let l = now (s .args .line) in
+    let e = a .word-at .ensures in
+    let f = d .before .before .word-at2 .ensures in
+    ap (λ (n : ℕ). To45 (Crtc.Run n true)) (count-is l _ _ e f)
+    ∙ found _ 4 (s .pre) (lit≤ tt) _ (d .word-at3 .ensures) 0x45 0x07 (lit< tt, lit< tt) (c .match .keys4)
+    (word-bytes l 4 _ e (d .before .before .before .if1 .left) (word-bytes l 8 _ f (d .before .if2 .left) no-more))
+
+returns-7 : tie.Need-returns-7
+returns-7 c =
+    let d = c .before in
     let r = c .match .rest in
     not-found _ 4 (d .before .before .before .before .before .before .pre) (lit≤ tt)
-    (four-other _ _ _ (d .word-at3 .ensures) _ _ _ _ (r .0 .0 .1) (r .0 .1) (r .1))
+    (four-other _ _ _ (d .word-at3 .ensures) _ _ _ _ (r .0 .0 .0 .1) (r .0 .0 .1) (r .0 .1) (r .1))
 
 pub four-spec : {M : Type 1} → statement M
-four-spec = tie.close (tie.spec (λ c κs. search needs) returns (λ c κs. search needs) returns-2 (λ c. search needs) (λ c. search needs) (λ c κs. search needs) returns-3 returns-4 returns-5 returns-6)
+four-spec = tie.close (tie.spec (λ c κs. search needs) returns (λ c κs. search needs) returns-2 (λ c. search needs) (λ c. search needs) (λ c κs. search needs) returns-3 returns-4 returns-5 returns-6 returns-7)

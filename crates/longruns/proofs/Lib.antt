@@ -1,0 +1,4 @@
+pub mod Places
+pub mod Lines
+pub mod Forgets
+pub mod Leaps

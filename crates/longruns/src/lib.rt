@@ -1,0 +1,74 @@
+// Long runs of a raster: all but the last lines by division.
+ghost use mathlib.Core.Path.{_≡_};
+ghost use mathlib.Core.Bool.{true, _&&_};
+ghost use Prim.Native.Nat.{_+_, _*_, _<_};
+ghost use lib.Dec.{ltb};
+ghost use Rattle.clocks.specs.Clocks.{after};
+ghost use Rattle.raster.specs.Record.{wellRaster};
+ghost use Rattle.raster.specs.Clock.{rasterClocked};
+ghost use Rattle.raster.specs.Closed.{gap};
+ghost use Rattle.longruns.specs.Ends.{endsOf};
+ghost use Rattle.longruns.specs.Places.{leaptOf};
+use raster::Line;
+use raster::Raster;
+
+mod place;
+
+// The clocks before the one that ends the line.
+fn ahead(raster: Raster) -> u32
+    ensures { λ r. ⌜ (r ≡ gap (raster .line .column) (raster .registers .r0)) × (r < 256) ⌝ }
+{
+    std::num::wrapping_sub_u8(raster.registers.r0, raster.line.column) as u32
+}
+
+// Whether to leap: below 20 lines it does not pay, and counters that are out of their ranges cannot be placed.
+fn far(raster: Raster, n: u32) -> bool
+    ensures { λ r. ⌜ r ≡ (ltb (gap (raster .line .column) (raster .registers .r0) + 20 * (raster .registers .r0 + 1)) n && wellRaster raster) ⌝ }
+{
+    if ahead(raster) + 20 * (raster.registers.r0 as u32 + 1) < n {
+        raster.well()
+    } else {
+        false
+    }
+}
+
+fn leapt(mut raster: Raster, skipped: u32) -> Raster
+    requires { ⌜ wellRaster raster ≡ true ⌝ }
+    ensures { λ r. ⌜ r ≡ leaptOf skipped raster ⌝ }
+{
+    let registers = raster.registers;
+    let frame = raster.frame;
+    let line = Line {
+        column: 0,
+        hsync: 0,
+    };
+    raster.line = line;
+    raster.frame = place::placed(frame, registers, skipped);
+    raster
+}
+
+// n clocks, in a number of steps that does not grow with n. A leap clears HSYNC and leaves VSYNC as it was: neither lasts longer than the
+// sixteen lines and more that are run after it, and in these both come right.
+pub fn run(mut raster: Raster, n: u32) -> Raster
+    ensures { λ r. ⌜ r ≡ after n rasterClocked raster ⌝ }
+{
+    let mut left = n;
+    if far(raster, n) {
+        let width = raster.registers.r0 as u32 + 1;
+        let past = n - ahead(raster) - 1;
+        raster = leapt(raster, past / width - 15);
+        left = past % width + 16 * width;
+    }
+    raster.run(left)
+}
+
+// The line ends that n clocks pass: one at the end of this line, and one each R0 + 1 clocks after it.
+pub fn ends(raster: Raster, n: u32) -> u32
+    ensures { λ r. ⌜ r ≡ endsOf n raster ⌝ }
+{
+    let first = ahead(raster);
+    if n <= first {
+        return 0;
+    }
+    (n - first - 1) / (raster.registers.r0 as u32 + 1) + 1
+}
