@@ -209,14 +209,14 @@ fn data45(reading: crtc6545::Reading) -> After45
     }
 }
 
-// The turns of a run, where they are asked for.
-fn turned(counted: bool, lines: u8, turns: u64) -> Reply
-    ensures { λ r. ⌜ r ≡ turned45 counted lines turns ⌝ }
+// The line byte, and the turns of a run after it where they are asked for.
+fn turned(counted: bool, byte: u8, turns: u64) -> Reply
+    ensures { λ r. ⌜ r ≡ turned45 counted byte turns ⌝ }
 {
     if counted {
-        Reply::Number(lines, (turns % 4294967296) as u32)
+        Reply::Number(byte, (turns % 4294967296) as u32)
     } else {
-        Reply::Done(lines)
+        Reply::Done(byte)
     }
 }
 

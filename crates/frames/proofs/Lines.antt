@@ -15,6 +15,7 @@ use Rattle.clocks.specs.Clocks.{if_then_else_}
 use Rattle.clocks.proofs.Tests.{both}
 use Rattle.frames.specs.Hex.{valueOf, pairOf, pairAt}
 use Rattle.frames.specs.Frames.{bytesOf, areBytes, clocks, of22, of32, of45, ofBytes, checked, frameOf}
+use Rattle.frames.specs.declared.Frame.{Frame}
 use Rattle.frames.specs.declared.Frame.the-variants.{Unknown}
 
 -- ---- digits
@@ -157,6 +158,15 @@ module _ (l : List ℕ) (m : ℕ) (len : length l ≡ 4 + 2 * m) (u : m ≤ 14) 
   pub not-found : ofBytes (pairAt l 0 ∷ pairAt l 2 ∷ pairsOf l 4 m) ≡ Unknown → Unknown ≡ frameOf l
   unfolding checked
   not-found n = rw (← frame-is, n, either-same)
+
+-- four operands that were read as the numbers v and w, after the first word x: a frame F with so many clocks
+module _ (l : List ℕ) (len : length l ≡ 12) (v w x : ℕ) (e : v ≡ pairAt l 4 * 256 + pairAt l 6) (f : w ≡ pairAt l 8 * 256 + pairAt l 10)
+    (g : x ≡ pairAt l 0 * 256 + pairAt l 2) where
+  pub run-found :
+      v ≤ 65535 → w ≤ 65535 → (chip op : ℕ) → (chip < 256) × (op < 256) → x ≡ chip * 256 + op → (F : ℕ → Frame)
+      → ofBytes (chip ∷ op ∷ pairsOf l 4 4) ≡ F (clocks (pairsOf l 4 4)) → F (v * 65536 + w) ≡ frameOf l
+  run-found a b chip op h k F q =
+      ap F (count-is l v w e f) ∙ sym q ∙ found l 4 len (lit≤ tt) x g chip op h k (word-bytes l 4 v e a (word-bytes l 8 w f b no-more))
 
 -- ---- first words that are no operation with so many operands
 

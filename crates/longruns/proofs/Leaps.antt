@@ -1,5 +1,5 @@
 -- A leap: lines left out of a run, where at least sixteen are left that make up for HSYNC and VSYNC.
-use mathlib.Core.Path.{_≡_, refl, sym, ap, ap₂, _∙_}
+use mathlib.Core.Path.{_≡_, refl, sym, ap, _∙_}
 use mathlib.Core.Bool.{Bool, true, _&&_}
 use Prim.Native.Nat.{ℕ, zero, suc, _+_, _-_, _*_, _/_, _%_, _<_, _≤_}
 use native.Mathlib.Nat.{add-mul, le-div-iff-mul-le, div-add-mod', mod-lt}
@@ -9,20 +9,19 @@ use borrow.Author.Tests.{ltb-true}
 use Rattle.clocks.specs.Clocks.{after}
 use Rattle.clocks.proofs.Clocks.{after-keeps}
 use Rattle.clocks.proofs.Tests.{both}
-use Rattle.raster.specs.Record.{wellRaster, startOf}
-use Rattle.raster.specs.Clock.{withVsync, frameMoved, lineEnded, rasterClocked}
+use Rattle.raster.specs.Record.{wellRaster}
+use Rattle.raster.specs.Clock.{frameMoved, lineEnded, rasterClocked}
 use Rattle.raster.specs.Closed.{gap}
 use Rattle.raster.specs.declared.Registers.{Registers}
-use Rattle.raster.specs.declared.Line.{Line}
 use Rattle.raster.specs.declared.Frame.{Frame}
 use Rattle.raster.specs.declared.Raster.{Raster}
-use Rattle.raster.proofs.Formed.{Formed, formed}
+use Rattle.raster.proofs.Formed.{formed}
 use Rattle.raster.proofs.Keeps.{clocked-well}
 use Rattle.raster.proofs.Runs.{raster}
 use Rattle.longruns.specs.Ends.{endsOf}
 use Rattle.longruns.specs.Places.{Counters, leaptOf}
 use Rattle.longruns.proofs.Lines.{Passed, passedOf, more, passed-add, Lined, lines-on, from-start}
-use Rattle.longruns.proofs.Forgets.{Near, low, moved-vsync, lines-moved, Alike, forgotten}
+use Rattle.longruns.proofs.Forgets.{low, moved-vsync, lines-moved, Alike, forgotten}
 
 -- line ends of the counters leave VSYNC
 vsync-stays : (r : Registers) (f : Frame) (k : ℕ) → after k (frameMoved r) f .vsync ≡ f .vsync

@@ -1,6 +1,5 @@
 -- Line ends: of a sum of clocks, of whole lines, and by division.
 use mathlib.Core.Path.{_≡_, refl, sym, ap, ap₂, _∙_}
-use mathlib.Core.Bool.{true, false}
 use Prim.Native.Nat.{ℕ, zero, suc, _+_, _-_, _*_, _/_, _%_, _<_, _≤_, zero-le}
 use native.Mathlib.Nat.{zero-mul, suc-mul, add-suc, add-zero, add-assoc, add-comm, div-add-mod', div-mul-le-self, le-div-iff-mul-le, mod-lt}
 use native.Mathlib.Decide.{decLt}

@@ -2,8 +2,8 @@
 use mathlib.Core.Path.{_≡_, refl, sym, ap, _∙_}
 use mathlib.Core.Bool.{Bool, true, false}
 use mathlib.Core.Logic.{_⊎_, inl, inr}
-use Prim.Native.Nat.{ℕ, zero, suc, _+_, _-_, _*_, _/_, _%_, _<_, _≤_}
-use native.Mathlib.Nat.{mul-suc, suc-mul, mul-add, mul-zero, mul-comm, sub-zero, sub-self, zero-mul, zero-div, div-add-mod', div-mul-le-self, mod-lt, add-mul-div-right, mul-le-mul, mul-le-mul-right}
+use Prim.Native.Nat.{ℕ, suc, _+_, _-_, _*_, _/_, _%_, _<_, _≤_}
+use native.Mathlib.Nat.{mul-suc, suc-mul, mul-add, mul-zero, sub-zero, sub-self, zero-mul, zero-div, div-add-mod', div-mul-le-self, mod-lt, add-mul-div-right, mul-le-mul, mul-le-mul-right}
 use native.Mathlib.Decide.{decLt, decLe, ℕ-discrete}
 use native.Mathlib.Omega.{arith}
 use lib.Dec.{eqb, ltb}
@@ -12,7 +12,6 @@ use Rattle.clocks.specs.Clocks.{if_then_else_, after}
 use Rattle.clocks.proofs.Tests.{on-true, on-false}
 use Rattle.clocks.proofs.Turns.{one-more, Within, Turned, Turns, after-short, after-past}
 use Rattle.raster.specs.Clock.{withScan, withRow, withRowStart, withAdjust, rowDone, newFrame, adjustMoved, rowEnded, frameMoved}
-use Rattle.raster.specs.Record.{startOf}
 use Rattle.raster.specs.declared.Registers.{Registers}
 use Rattle.raster.specs.declared.Frame.{Frame}
 use Rattle.longruns.specs.Places.{Counters, rowsAfter, endsBefore, inRow, inAdjust, rowsLeft, LeftFits, atRow, placeOf, withField, frameOn}

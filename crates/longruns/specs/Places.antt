@@ -1,4 +1,4 @@
--- What the code computes of a frame at once: where its line ends bring it, as far as they can be counted.
+-- What the code computes of a frame at once: where line ends bring it, VSYNC apart.
 use mathlib.Core.Bool.{true, false}
 use Prim.Native.Nat.{ℕ, _+_, _-_, _*_, _/_, _%_, _<_, _≤_}
 use lib.Dec.{ltb}

@@ -32,6 +32,7 @@ fn far(raster: Raster, n: u32) -> bool
     }
 }
 
+// The start of a line, `skipped` line ends on, with no HSYNC, and VSYNC as it was.
 fn leapt(mut raster: Raster, skipped: u32) -> Raster
     requires { ⌜ wellRaster raster ≡ true ⌝ }
     ensures { λ r. ⌜ r ≡ leaptOf skipped raster ⌝ }
@@ -47,8 +48,8 @@ fn leapt(mut raster: Raster, skipped: u32) -> Raster
     raster
 }
 
-// n clocks, in a number of steps that does not grow with n. A leap clears HSYNC and leaves VSYNC as it was: neither lasts longer than the
-// sixteen lines and more that are run after it, and in these both come right.
+// n clocks, in a number of steps that does not grow with n. After a leap at least sixteen lines are run, and neither HSYNC nor VSYNC lasts
+// longer than that: both come right in them.
 pub fn run(mut raster: Raster, n: u32) -> Raster
     ensures { λ r. ⌜ r ≡ after n rasterClocked raster ⌝ }
 {

@@ -7,6 +7,7 @@ ghost use Rattle.longruns.specs.Places.{Counters, rowsAfter, endsBefore,
 use raster::Frame;
 use raster::Registers;
 
+// The rows after this one.
 fn rows_after(frame: Frame, registers: Registers) -> u32
     requires { ⌜ Counters registers frame ⌝ }
     ensures { λ r. ⌜ (r ≡ rowsAfter registers frame) × (r < 128) ⌝ }
@@ -53,6 +54,7 @@ fn rows_left(frame: Frame, registers: Registers, x: u32) -> u32
     if rows < whole { rows } else { whole }
 }
 
+// The frame in a row, x line ends before the last of the rows'.
 fn at_row(mut frame: Frame, registers: Registers, x: u32) -> Frame
     requires { ⌜ Counters registers frame × (x ≤ 31 + rowsAfter registers frame * (registers .r9 + 1)) ⌝ }
     ensures { λ r. ⌜ r ≡ atRow registers frame x ⌝ }
@@ -69,6 +71,7 @@ fn at_row(mut frame: Frame, registers: Registers, x: u32) -> Frame
     frame
 }
 
+// The frame at an adjust line, all its rows done.
 fn in_adjust(mut frame: Frame, registers: Registers, line: u8) -> Frame
     requires { ⌜ Counters registers frame ⌝ }
     ensures { λ r. ⌜ r ≡ inAdjust registers frame line ⌝ }

@@ -1,15 +1,14 @@
 use borrow.Author.Needs.{needs}
 use denote.Ref.{now}
 use lib.Dec.{lit<, lit≤}
-use mathlib.Core.Path.{ap, _∙_}
+use mathlib.Core.Path.{refl}
 use mathlib.Core.Bool.{true, false}
 use native.Mathlib.Omega.{arith}
-use Prim.Native.Nat.{ℕ}
 use Rattle.calls.specs.declared.Call22.the-variants as Via
 use Rattle.calls.specs.declared.Call32.the-variants as Riot
 use Rattle.calls.specs.declared.Call45.the-variants as Crtc
 use Rattle.frames.specs.declared.Frame.the-variants.{To22, To32, To45}
-use Rattle.frames.proofs.Lines.{no-more, word-bytes, no-word, no-bytes, count-is, found, not-found, four-other, and-no}
+use Rattle.frames.proofs.Lines.{no-word, no-bytes, run-found, not-found, four-other, and-no}
 use Rattle.frames.proofs.four.Statement.{statement}
 use Rattle.frames.proofs.four.Tie as tie
 
@@ -28,50 +27,38 @@ returns-2 c =
 returns-3 : tie.Need-returns-3
 returns-3 c =
     let d = c .before in
-    let a = d .before .before .before .before in
-    let s = a .before .before in
-    let l = now (s .args .line) in
-    let e = a .word-at .ensures in
-    let f = d .before .before .word-at2 .ensures in
-    ap (λ (n : ℕ). To22 (Via.Run n)) (count-is l _ _ e f)
-    ∙ found _ 4 (s .pre) (lit≤ tt) _ (d .word-at3 .ensures) 0x22 0x05 (lit< tt, lit< tt) (c .match .keys1)
-    (word-bytes l 4 _ e (d .before .before .before .if1 .left) (word-bytes l 8 _ f (d .before .if2 .left) no-more))
+    let i = d .before in
+    let j = i .before .before in
+    let a = j .before in
+    run-found _ (a .before .before .pre) _ _ _ (a .word-at .ensures) (i .before .word-at2 .ensures) (d .word-at3 .ensures) (j .if1 .left) (i .if2 .left)
+    0x22 0x05 (lit< tt, lit< tt) (c .match .keys1) (λ n. To22 (Via.Run n)) refl
 
 returns-4 : tie.Need-returns-4
 returns-4 c =
     let d = c .before in
-    let a = d .before .before .before .before in
-    let s = a .before .before in
-    let l = now (s .args .line) in
-    let e = a .word-at .ensures in
-    let f = d .before .before .word-at2 .ensures in
-    ap (λ (n : ℕ). To32 (Riot.Run n)) (count-is l _ _ e f)
-    ∙ found _ 4 (s .pre) (lit≤ tt) _ (d .word-at3 .ensures) 0x32 0x05 (lit< tt, lit< tt) (c .match .keys2)
-    (word-bytes l 4 _ e (d .before .before .before .if1 .left) (word-bytes l 8 _ f (d .before .if2 .left) no-more))
+    let i = d .before in
+    let j = i .before .before in
+    let a = j .before in
+    run-found _ (a .before .before .pre) _ _ _ (a .word-at .ensures) (i .before .word-at2 .ensures) (d .word-at3 .ensures) (j .if1 .left) (i .if2 .left)
+    0x32 0x05 (lit< tt, lit< tt) (c .match .keys2) (λ n. To32 (Riot.Run n)) refl
 
 returns-5 : tie.Need-returns-5
 returns-5 c =
     let d = c .before in
-    let a = d .before .before .before .before in
-    let s = a .before .before in
-    let l = now (s .args .line) in
-    let e = a .word-at .ensures in
-    let f = d .before .before .word-at2 .ensures in
-    ap (λ (n : ℕ). To45 (Crtc.Run n false)) (count-is l _ _ e f)
-    ∙ found _ 4 (s .pre) (lit≤ tt) _ (d .word-at3 .ensures) 0x45 0x05 (lit< tt, lit< tt) (c .match .keys3)
-    (word-bytes l 4 _ e (d .before .before .before .if1 .left) (word-bytes l 8 _ f (d .before .if2 .left) no-more))
+    let i = d .before in
+    let j = i .before .before in
+    let a = j .before in
+    run-found _ (a .before .before .pre) _ _ _ (a .word-at .ensures) (i .before .word-at2 .ensures) (d .word-at3 .ensures) (j .if1 .left) (i .if2 .left)
+    0x45 0x05 (lit< tt, lit< tt) (c .match .keys3) (λ n. To45 (Crtc.Run n false)) refl
 
 returns-6 : tie.Need-returns-6
 returns-6 c =
     let d = c .before in
-    let a = d .before .before .before .before in
-    let s = a .before .before in
-    let l = now (s .args .line) in
-    let e = a .word-at .ensures in
-    let f = d .before .before .word-at2 .ensures in
-    ap (λ (n : ℕ). To45 (Crtc.Run n true)) (count-is l _ _ e f)
-    ∙ found _ 4 (s .pre) (lit≤ tt) _ (d .word-at3 .ensures) 0x45 0x07 (lit< tt, lit< tt) (c .match .keys4)
-    (word-bytes l 4 _ e (d .before .before .before .if1 .left) (word-bytes l 8 _ f (d .before .if2 .left) no-more))
+    let i = d .before in
+    let j = i .before .before in
+    let a = j .before in
+    run-found _ (a .before .before .pre) _ _ _ (a .word-at .ensures) (i .before .word-at2 .ensures) (d .word-at3 .ensures) (j .if1 .left) (i .if2 .left)
+    0x45 0x07 (lit< tt, lit< tt) (c .match .keys4) (λ n. To45 (Crtc.Run n true)) refl
 
 returns-7 : tie.Need-returns-7
 returns-7 c =

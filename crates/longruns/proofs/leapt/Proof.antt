@@ -1,4 +1,3 @@
-use borrow.Author.Needs.{needs}
 use mathlib.Core.Path.{ap}
 use Rattle.raster.specs.declared.Frame.{Frame}
 use Rattle.raster.proofs.Runs.{raster}

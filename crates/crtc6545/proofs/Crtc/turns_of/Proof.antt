@@ -1,7 +1,6 @@
 use borrow.Author.Needs.{needs}
-use mathlib.Core.Path.{_≡_, ap, _∙_}
-use Prim.Native.Nat.{ℕ, suc, _+_, _-_}
-use native.Mathlib.Omega.{arith}
+use mathlib.Core.Path.{ap, _∙_}
+use Prim.Native.Nat.{ℕ, _+_}
 use Rattle.crtc6545.specs.Clock.{turnsOf}
 use Rattle.crtc6545.proofs.Turns.{turns-some}
 use Rattle.crtc6545.proofs.Crtc.turns_of.Statement.{statement}
