@@ -19,11 +19,11 @@ use Rattle.riot6532.specs.Chip as Chip32
 use Rattle.riot6532.specs.declared.Io.{Io}
 use Rattle.riot6532.specs.declared.IoAnswer.{IoAnswer}
 use Rattle.riot6532.specs.declared.IoReading.{IoReading}
+use Rattle.crtc6545.specs.Clock.{turnsOf}
 use Rattle.crtc6545.specs.Chip as Chip45
 use Rattle.crtc6545.specs.declared.Crtc.{Crtc}
 use Rattle.crtc6545.specs.declared.Answer as Answer45
 use Rattle.crtc6545.specs.declared.Reading as Reading45
-use Rattle.crtc6545.specs.declared.Running as Running45
 use Rattle.calling.specs.Told.{replied, lineOf, lines45, reply22, reply32, reply45}
 use Rattle.calling.specs.declared.After22.{After22}
 use Rattle.calling.specs.declared.After32.{After32}
@@ -64,16 +64,16 @@ data45 r =
       reply = replied (r .answer .refusal) (shown45 (r .undriven) (lines45 (r .answer)) (r .answer .«data»));
     }
 
+-- the turns of a run, 0 where they are not asked for
+abbrev pub turns45 : Crtc → ℕ → Bool → ℕ
+turns45 v n counted = if counted then turnsOf n (v .raster) else 0
+
 -- turns are shown where they are asked for; four bytes have room for all that can be
 abbrev pub turned45 : Bool → ℕ → ℕ → Reply
 turned45 counted lines turns = if counted then Number lines (turns % 4294967296) else Done lines
 
-abbrev pub ran45 : Bool → Running45.Running → After45
-ran45 counted r =
-    record {
-      crtc = r .answer .crtc;
-      reply = replied (r .answer .refusal) (turned45 counted (lines45 (r .answer)) (r .turns));
-    }
+abbrev pub ran45 : Bool → ℕ → Answer45.Answer → After45
+ran45 counted turns a = record { crtc = a .crtc; reply = replied (a .refusal) (turned45 counted (lines45 a) turns) }
 
 -- what a call leaves of a chip, and its reply
 abbrev pub after22 : Via → Call22 → After22

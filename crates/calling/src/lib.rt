@@ -5,7 +5,7 @@ ghost use Prim.Native.Nat.{ℕ, _≤_};
 ghost use Rattle.clocks.specs.Clocks.{if_then_else_};
 ghost use Rattle.clocks.specs.Forecasts.{numberOf};
 ghost use Rattle.calling.specs.Told.{replied as repliedOf, lineOf, lines45 as lines45Of};
-ghost use Rattle.calling.specs.After.{done22 as done22Of, data22 as data22Of, done32 as done32Of, data32 as data32Of, done45 as done45Of, shown45, data45 as data45Of, turned45, ran45 as ran45Of, after22, After, after45};
+ghost use Rattle.calling.specs.After.{done22 as done22Of, data22 as data22Of, done32 as done32Of, data32 as data32Of, done45 as done45Of, shown45, data45 as data45Of, turns45 as turns45Of, turned45, ran45 as ran45Of, after22, After, after45};
 use calls::Call22;
 use calls::Call32;
 use calls::Call45;
@@ -209,7 +209,14 @@ fn data45(reading: crtc6545::Reading) -> After45
     }
 }
 
-// The line byte, and the turns of a run after it where they are asked for.
+// The turns of a run, worked out only where they are asked for.
+fn turns45(crtc: Crtc, n: u32, counted: bool) -> u64
+    ensures { λ r. ⌜ r ≡ turns45Of crtc n counted ⌝ }
+{
+    if counted { crtc.turns_of(n) } else { 0 }
+}
+
+// The line byte, and the turns after it where they are asked for.
 fn turned(counted: bool, byte: u8, turns: u64) -> Reply
     ensures { λ r. ⌜ r ≡ turned45 counted byte turns ⌝ }
 {
@@ -220,12 +227,11 @@ fn turned(counted: bool, byte: u8, turns: u64) -> Reply
     }
 }
 
-fn ran45(counted: bool, running: crtc6545::Running) -> After45
-    ensures { λ r. ⌜ r ≡ ran45Of counted running ⌝ }
+fn ran45(counted: bool, turns: u64, answer: crtc6545::Answer) -> After45
+    ensures { λ r. ⌜ r ≡ ran45Of counted turns answer ⌝ }
 {
-    let answer = running.answer;
     let crtc = answer.crtc;
-    let reply = turned(counted, lines45(answer), running.turns);
+    let reply = turned(counted, lines45(answer), turns);
     After45 {
         crtc,
         reply: replied(answer.refusal, reply),
@@ -240,6 +246,9 @@ pub fn on45(crtc: Crtc, call: Call45) -> After45
         Call45::Write(address, value) => done45(crtc.write(address, value)),
         Call45::Read(address) => data45(crtc.read(address)),
         Call45::Pins(pen) => done45(crtc.pins(pen)),
-        Call45::Run(n, counted) => ran45(counted, crtc.run_either(n, counted)),
+        Call45::Run(n, counted) => {
+            let turns = turns45(crtc, n, counted);
+            ran45(counted, turns, crtc.run_either(n, counted))
+        }
     }
 }

@@ -5,7 +5,7 @@ use Prim.Native.Nat.{ℕ, zero, suc, _<_, _≤_}
 use native.Mathlib.Omega.{arith}
 use lib.Dec.{ltb}
 use borrow.Author.Tests.{ltb-false}
-use Rattle.clocks.specs.Clocks.{if_then_else_, after}
+use Rattle.clocks.specs.Clocks.{if_then_else_}
 use Rattle.clocks.proofs.Tests.{picked}
 use Rattle.clocks.proofs.Clocks.{after-keeps}
 use Rattle.calls.specs.Calls.{Typed45}

@@ -2,16 +2,14 @@
 use mathlib.Core.Path.{_≡_, sym, ap, ap₂, _∙_}
 use mathlib.Core.Bool.{Bool, false, _&&_}
 use Prim.Native.Nat.{ℕ}
-use lib.Dec.{eqb}
 use borrow.Author.Tests.{eq-eqb, ne-eqb}
 use Rattle.clocks.specs.Clocks.{after}
-use Rattle.clocks.proofs.Tests.{on-true, on-false}
 use Rattle.chips.specs.Chips.{first}
 use Rattle.chips.proofs.Chips.{accepts, refuses}
 use Rattle.calls.specs.declared.Call45.the-variants.{Read, Run}
 use Rattle.crtc6545.specs.Access.{dataOf, undrivenOf, readOf}
 use Rattle.crtc6545.specs.Clock.{clockOf, turnsOf}
-use Rattle.crtc6545.specs.Chip.{chip, accepted, refused, readingOf, runningOf}
+use Rattle.crtc6545.specs.Chip.{chip, accepted, refused, readingOf, withTurns, runningOf}
 use Rattle.crtc6545.specs.declared.Crtc.{Crtc}
 use Rattle.crtc6545.specs.declared.Answer.{Answer}
 use Rattle.crtc6545.specs.declared.Reading.{Reading}
@@ -40,15 +38,9 @@ running k r = record { turns = k; answer = r }
 
 module _ (n : ℕ) (b : Bool) (v : Crtc) (k : ℕ) (e : k ≡ first chip (Run n b) v) where
   pub runs : k ≡ 0 → runningOf n b v ≡ running (turnsOf n (v .raster)) (accepted 0 (after n clockOf v))
-  unfolding runningOf
-  runs z =
-      ap₂ running
-      (on-true (eqb (first chip (Run n b) v) 0) _ _ (eq-eqb (first chip (Run n b) v) 0 (sym e ∙ z)))
-      (accepts chip (Run n b) v k e z)
+  unfolding runningOf accepted
+  runs z = ap (withTurns n v) (accepts chip (Run n b) v k e z)
 
   pub runs-none : (k ≡ 0 → ⊥) → runningOf n b v ≡ running 0 (refused k v)
-  unfolding runningOf
-  runs-none z =
-      ap₂ running
-      (on-false (eqb (first chip (Run n b) v) 0) _ _ (ne-eqb (first chip (Run n b) v) 0 (λ q. z (e ∙ q))))
-      (refuses chip (Run n b) v k e z)
+  unfolding runningOf refused
+  runs-none z = ap (withTurns n v) (refuses chip (Run n b) v k e z) ∙ rw (ne-eqb k 0 z)

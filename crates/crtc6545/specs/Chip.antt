@@ -97,10 +97,10 @@ clocked counted = record { rule = clockOf; run = λ n. Run n counted; longest = 
 unfoldable pub readingOf : ℕ → Crtc → Reading
 readingOf a v = record { undriven = eqb (first chip (Read a) v) 0 && undrivenOf a v; answer = answer chip (Read a) v }
 
--- a run: the answer to the call, and its turns, none where it is refused
+-- an answer to a run of n clocks with their turns, none where it is refused
+abbrev pub withTurns : ℕ → Crtc → Answer → Running
+withTurns n v r = record { turns = if eqb (r .refusal) 0 then turnsOf n (v .raster) else 0; answer = r }
+
+-- a run: the answer to the call, with its turns
 unfoldable pub runningOf : ℕ → Bool → Crtc → Running
-runningOf n counted v =
-    record {
-      turns = if eqb (first chip (Run n counted) v) 0 then turnsOf n (v .raster) else 0;
-      answer = answer chip (Run n counted) v;
-    }
+runningOf n counted v = withTurns n v (answer chip (Run n counted) v)

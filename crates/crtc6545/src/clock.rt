@@ -1,7 +1,7 @@
-// The pen's strobe, n clocks, and their turns.
+// The pen's strobe, and n clocks.
 ghost use mathlib.Core.Path.{_≡_};
 ghost use Rattle.clocks.specs.Clocks.{after};
-ghost use Rattle.crtc6545.specs.Clock.{strobed as strobedOf, clockOf, turnsOf};
+ghost use Rattle.crtc6545.specs.Clock.{strobed as strobedOf, clockOf};
 use crate::Crtc;
 use crate::Kept;
 use crate::Light;
@@ -42,15 +42,5 @@ impl Crtc {
         self.light = light.strobed(first.ma);
         self.kept = kept;
         self
-    }
-
-    pub(crate) fn turns_of(self, n: u32) -> u64
-        ensures { λ r. ⌜ r ≡ turnsOf n (self .raster) ⌝ }
-    {
-        if n == 0 {
-            return 0;
-        }
-        let raster = self.raster;
-        longruns::ends(raster, n) as u64 + 1
     }
 }

@@ -4,7 +4,8 @@ ghost use mathlib.Core.Bool.{true, false};
 ghost use Rattle.clocks.specs.Clocks.{if_then_else_};
 ghost use Rattle.chips.specs.Chips.{answer};
 ghost use Rattle.crtc6545.specs.Record.{wellFormed, powerUp};
-ghost use Rattle.crtc6545.specs.Chip.{chip, accepted as acceptedOf, refused as refusedOf, readingOf, runningOf};
+ghost use Rattle.crtc6545.specs.Clock.{turnsOf};
+ghost use Rattle.crtc6545.specs.Chip.{chip, accepted as acceptedOf, refused as refusedOf, readingOf, withTurns, runningOf};
 use calls::Call45;
 use clocks::bit;
 use clocks::choose8;
@@ -204,40 +205,55 @@ impl Crtc {
     pub fn clock(self) -> Answer
         ensures { λ r. ⌜ r ≡ answer chip (Call45.Run 1 false) self ⌝ }
     {
-        let running = self.run(1);
-        let answer = running.answer;
-        answer
+        self.run_either(1, false)
     }
 
     pub fn run(self, n: u32) -> Running
         ensures { λ r. ⌜ r ≡ runningOf n false self ⌝ }
     {
-        self.run_either(n, false)
+        self.running(n, self.run_either(n, false))
     }
 
     // A run whose turns are asked for.
     pub fn turns(self, n: u32) -> Running
         ensures { λ r. ⌜ r ≡ runningOf n true self ⌝ }
     {
-        self.run_either(n, true)
+        self.running(n, self.run_either(n, true))
     }
 
-    // Both of these in one place, for a caller that has the mark: a second call site would keep the run from being compiled into it.
-    pub fn run_either(self, n: u32, counted: bool) -> Running
-        ensures { λ r. ⌜ r ≡ runningOf n counted self ⌝ }
+    // The answer to either run, for a caller that has the mark. There is one call of `ran`, so that it is compiled into the loop over lines.
+    pub fn run_either(self, n: u32, counted: bool) -> Answer
+        ensures { λ r. ⌜ r ≡ answer chip (Call45.Run n counted) self ⌝ }
     {
         let long = counted & (Crtc::LONGEST_COUNTED < n);
         let number = self.refusal(choose8(long, 6, 0));
         if number != 0 {
-            return Running {
-                turns: 0,
-                answer: self.refused(number),
-            };
+            return self.refused(number);
         }
         let next = self.ran(n);
+        next.accepted(0)
+    }
+
+    // The turns of n clocks from this record on, whether a run of them is refused or not.
+    pub fn turns_of(self, n: u32) -> u64
+        ensures { λ r. ⌜ r ≡ turnsOf n (self .raster) ⌝ }
+    {
+        if n == 0 {
+            return 0;
+        }
+        let raster = self.raster;
+        longruns::ends(raster, n) as u64 + 1
+    }
+
+    fn running(self, n: u32, answer: Answer) -> Running
+        ensures { λ r. ⌜ r ≡ withTurns n self «answer» ⌝ }
+    {
+        if answer.refusal != 0 {
+            return Running { turns: 0, answer };
+        }
         Running {
             turns: self.turns_of(n),
-            answer: next.accepted(0),
+            answer,
         }
     }
 }

@@ -24,7 +24,8 @@ returns-4 c = c .done453 .ensures ∙ ap (λ (a : Answer). done45 a) (c .before 
 
 returns-5 : tie.Need-returns-5
 returns-5 c =
-    c .ran45 .ensures ∙ run45 _ _ _ _ (c .before .run-either .ensures) ∙ rw (c .before .before .before .call4 .given .1)
+    let p = c .before .before in
+    c .ran45 .ensures ∙ run45 _ _ _ _ _ (p .turns45 .ensures) (c .before .run-either .ensures) ∙ rw (p .before .before .call4 .given .1)
 
 pub on45-spec : {M : Type 1} → statement M
-on45-spec = tie.close (tie.spec (λ c. search needs) (λ c κs. search needs) (λ c κs. search needs) (λ c. search needs) (λ c κs. search needs) (λ c κs. search needs) (λ c. search needs) (λ c κs. search needs) (λ c κs. search needs) (λ c. search needs) (λ c κs. search needs) (λ c κs. search needs) (λ c. search needs) (λ c κs. search needs) (λ c κs. search needs) returns returns-2 returns-3 returns-4 returns-5)
+on45-spec = tie.close (tie.spec (λ c. search needs) (λ c κs. search needs) (λ c κs. search needs) (λ c. search needs) (λ c κs. search needs) (λ c κs. search needs) (λ c. search needs) (λ c κs. search needs) (λ c κs. search needs) (λ c. search needs) (λ c κs. search needs) (λ c κs. search needs) (λ c. search needs) (λ c κs. search needs) (λ c κs. search needs) (λ c κs. search needs) returns returns-2 returns-3 returns-4 returns-5)
