@@ -23,7 +23,7 @@ use Rattle.riot6532.specs.declared.Answer as Answer32
 use Rattle.riot6532.specs.declared.IoAnswer.{IoAnswer}
 use Rattle.riot6532.specs.declared.Reading as Reading32
 use Rattle.riot6532.specs.declared.IoReading.{IoReading}
-use Rattle.crtc6545.specs.Clock.{turnsOf}
+use Rattle.longruns.specs.Ends.{turnsOf}
 use Rattle.crtc6545.specs.Chip as Chip45
 use Rattle.crtc6545.specs.declared.Crtc.{Crtc}
 use Rattle.crtc6545.specs.declared.Answer.{Answer}

@@ -19,7 +19,7 @@ use Rattle.riot6532.specs.Chip as Chip32
 use Rattle.riot6532.specs.declared.Io.{Io}
 use Rattle.riot6532.specs.declared.IoAnswer.{IoAnswer}
 use Rattle.riot6532.specs.declared.IoReading.{IoReading}
-use Rattle.crtc6545.specs.Clock.{turnsOf}
+use Rattle.longruns.specs.Ends.{turnsOf}
 use Rattle.crtc6545.specs.Chip as Chip45
 use Rattle.crtc6545.specs.declared.Crtc.{Crtc}
 use Rattle.crtc6545.specs.declared.Answer as Answer45
@@ -68,7 +68,7 @@ data45 r =
 abbrev pub turns45 : Crtc → ℕ → Bool → ℕ
 turns45 v n counted = if counted then turnsOf n (v .raster) else 0
 
--- turns are shown where they are asked for; four bytes have room for all that can be
+-- turns are shown where they are asked for; four bytes have room for those of every run that is not refused
 abbrev pub turned45 : Bool → ℕ → ℕ → Reply
 turned45 counted lines turns = if counted then Number lines (turns % 4294967296) else Done lines
 

@@ -213,7 +213,12 @@ fn data45(reading: crtc6545::Reading) -> After45
 fn turns45(crtc: Crtc, n: u32, counted: bool) -> u64
     ensures { λ r. ⌜ r ≡ turns45Of crtc n counted ⌝ }
 {
-    if counted { crtc.turns_of(n) } else { 0 }
+    if counted {
+        let raster = crtc.raster;
+        longruns::turns(raster, n)
+    } else {
+        0
+    }
 }
 
 // The line byte, and the turns after it where they are asked for.

@@ -8,7 +8,8 @@ use Rattle.chips.specs.Chips.{first}
 use Rattle.chips.proofs.Chips.{accepts, refuses}
 use Rattle.calls.specs.declared.Call45.the-variants.{Read, Run}
 use Rattle.crtc6545.specs.Access.{dataOf, undrivenOf, readOf}
-use Rattle.crtc6545.specs.Clock.{clockOf, turnsOf}
+use Rattle.longruns.specs.Ends.{turnsOf}
+use Rattle.crtc6545.specs.Clock.{clockOf}
 use Rattle.crtc6545.specs.Chip.{chip, accepted, refused, readingOf, withTurns, runningOf}
 use Rattle.crtc6545.specs.declared.Crtc.{Crtc}
 use Rattle.crtc6545.specs.declared.Answer.{Answer}

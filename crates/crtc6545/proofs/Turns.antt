@@ -1,7 +1,7 @@
 -- The turns of a run: of two runs in a row, and how many there can be.
 use mathlib.Core.Path.{_≡_, refl, sym, ap, _∙_}
 use mathlib.Core.Bool.{Bool, true, false}
-use Prim.Native.Nat.{ℕ, zero, suc, _+_, _-_, _/_, _<_, _≤_, zero-le}
+use Prim.Native.Nat.{ℕ, zero, suc, _+_, _/_, _<_, _≤_, zero-le}
 use native.Mathlib.Nat.{zero-add, add-zero}
 use native.Mathlib.Decide.{ℕ-discrete}
 use native.Mathlib.Omega.{arith}
@@ -16,10 +16,10 @@ use Rattle.calls.specs.declared.Call45.the-variants.{Run}
 use Rattle.raster.specs.Clock.{rasterClocked}
 use Rattle.raster.specs.declared.Raster.{Raster}
 use Rattle.raster.proofs.Formed as Rasters
-use Rattle.longruns.specs.Ends.{endsOf}
-use Rattle.longruns.proofs.Lines.{ends-add, ends-fit, ends-most}
+use Rattle.longruns.specs.Ends.{endsOf, turnsOf}
+use Rattle.longruns.proofs.Lines.{ends-add, ends-most, turns-few}
 use Rattle.crtc6545.specs.Record.{wellFormed}
-use Rattle.crtc6545.specs.Clock.{clockOf, turnsOf, joined, longestRun, runAsks}
+use Rattle.crtc6545.specs.Clock.{clockOf, joined, longestRun, runAsks}
 use Rattle.crtc6545.specs.Chip.{chip, accepted, refused, runningOf}
 use Rattle.crtc6545.specs.Demands
 use Rattle.crtc6545.specs.declared.Crtc.{Crtc}
@@ -42,16 +42,6 @@ turns-join (suc a) (suc b) v =
     ap (λ (k : ℕ). turnsOf k v) e
     ∙ ap (λ (k : ℕ). k + 1) (sym (ap (λ (k : ℕ). endsOf k v) e) ∙ ends-add (suc a) (suc b) v)
     ∙ sym (rw (ne-eqb (endsOf (suc a) v + 1) 0 (omega arith), ne-eqb (y + 1) 0 (omega arith)) (omega arith))
-
-pub turns-some : (n : ℕ) (v : Raster) → (n ≡ 0 → ⊥) → endsOf n v + 1 ≡ turnsOf n v
-unfolding turnsOf
-turns-some zero v z = absurd (z refl)
-turns-some (suc n) v z = refl
-
-turns-few : (n : ℕ) (v : Raster) → turnsOf n v ≤ n + 1
-unfolding turnsOf
-turns-few zero v = zero-le
-turns-few (suc n) v = omega (arith, ends-fit (suc n) v)
 
 -- ---- runs, accepted and refused
 

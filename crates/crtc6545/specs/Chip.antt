@@ -8,10 +8,11 @@ use Rattle.calls.specs.Calls.{Typed45}
 use Rattle.calls.specs.declared.Call45.{Call45}
 use Rattle.calls.specs.declared.Call45.the-variants.{Reset, Write, Read, Pins, Run}
 use Rattle.raster.specs.Signals.{signalsOf}
+use Rattle.longruns.specs.Ends.{turnsOf}
 use Rattle.crtc6545.specs.Record.{wellFormed, powerUp, resetOf}
 use Rattle.crtc6545.specs.Access.{readAsks, dataOf, undrivenOf, readOf, writeAsks, writeOf}
 use Rattle.crtc6545.specs.Pins.{pinsAsks, pinsOf}
-use Rattle.crtc6545.specs.Clock.{clockOf, turnsOf, longestRun, runAsks}
+use Rattle.crtc6545.specs.Clock.{clockOf, longestRun, runAsks}
 use Rattle.crtc6545.specs.Signals.{shownDe, shownCursor}
 use Rattle.crtc6545.specs.declared.Crtc.{Crtc}
 use Rattle.crtc6545.specs.declared.Answer.{Answer}

@@ -1,12 +1,11 @@
--- One clock, the turns of many, and the runs that are refused.
+-- One clock, the turns of two runs, and the runs that are refused.
 use mathlib.Core.Bool.{Bool, true, false, _&&_}
-use Prim.Native.Nat.{ℕ, zero, suc, _+_, _-_, _/_, _%_}
+use Prim.Native.Nat.{ℕ, _+_, _-_, _/_, _%_}
 use lib.Dec.{eqb, ltb}
 use Rattle.clocks.specs.Clocks.{if_then_else_}
 use Rattle.raster.specs.Clock.{rasterClocked}
 use Rattle.raster.specs.Signals.{signalsOf}
 use Rattle.raster.specs.declared.Raster.{Raster}
-use Rattle.longruns.specs.Ends.{endsOf}
 use Rattle.crtc6545.specs.declared.Light.{Light}
 use Rattle.crtc6545.specs.declared.Kept.{Kept}
 use Rattle.crtc6545.specs.declared.Crtc.{Crtc}
@@ -32,16 +31,11 @@ clockOf v =
       kept = keptOf (v .raster);
     }
 
--- the turns of n clocks: one more than the line ends that they pass, and none where there is no clock
-unfoldable pub turnsOf : ℕ → Raster → ℕ
-turnsOf zero v = 0
-turnsOf (suc n) v = endsOf (suc n) v + 1
-
 -- the turns of two runs as one: the turn that the first one ends in is the one that the second goes on with
 abbrev pub joined : ℕ → ℕ → ℕ
 joined x y = if eqb x 0 then y else if eqb y 0 then x else x + y - 1
 
--- the most clocks of a run: where its turns are asked for, their number has to fit four bytes
+-- the most clocks of a run: where its turns are asked for as many as request 08 allows, and these fit four bytes
 abbrev pub longestRun : Bool → ℕ
 longestRun counted = if counted then 4294967290 else 4294967295
 

@@ -4,7 +4,6 @@ ghost use mathlib.Core.Bool.{true, false};
 ghost use Rattle.clocks.specs.Clocks.{if_then_else_};
 ghost use Rattle.chips.specs.Chips.{answer};
 ghost use Rattle.crtc6545.specs.Record.{wellFormed, powerUp};
-ghost use Rattle.crtc6545.specs.Clock.{turnsOf};
 ghost use Rattle.crtc6545.specs.Chip.{chip, accepted as acceptedOf, refused as refusedOf, readingOf, withTurns, runningOf};
 use calls::Call45;
 use clocks::bit;
@@ -63,7 +62,7 @@ pub struct Running {
 }
 
 impl Crtc {
-    // The most clocks of a run whose turns are asked for.
+    // The most clocks of a run whose turns are asked for, and have to fit 32 bits.
     pub const LONGEST_COUNTED: u32 = 4294967290;
 
     pub fn power_up() -> Crtc
@@ -214,7 +213,7 @@ impl Crtc {
         self.running(n, self.run_either(n, false))
     }
 
-    // A run whose turns are asked for.
+    // A run whose turns have to fit 32 bits: above LONGEST_COUNTED clocks it is refused with 6.
     pub fn turns(self, n: u32) -> Running
         ensures { λ r. ⌜ r ≡ runningOf n true self ⌝ }
     {
@@ -234,25 +233,15 @@ impl Crtc {
         next.accepted(0)
     }
 
-    // The turns of n clocks from this record on, whether a run of them is refused or not.
-    pub fn turns_of(self, n: u32) -> u64
-        ensures { λ r. ⌜ r ≡ turnsOf n (self .raster) ⌝ }
-    {
-        if n == 0 {
-            return 0;
-        }
-        let raster = self.raster;
-        longruns::ends(raster, n) as u64 + 1
-    }
-
     fn running(self, n: u32, answer: Answer) -> Running
         ensures { λ r. ⌜ r ≡ withTurns n self «answer» ⌝ }
     {
         if answer.refusal != 0 {
             return Running { turns: 0, answer };
         }
+        let raster = self.raster;
         Running {
-            turns: self.turns_of(n),
+            turns: longruns::turns(raster, n),
             answer,
         }
     }

@@ -1,5 +1,5 @@
 -- What is left of a pulse is forgotten: two screens that differ in HSYNC and VSYNC alone are one after some clocks and line ends.
-use mathlib.Core.Path.{_≡_, refl, sym, ap, ap₂, _∙_}
+use mathlib.Core.Path.{_≡_, refl, sym, ap, _∙_}
 use mathlib.Core.Bool.{Bool, true, false, not, _&&_}
 use Prim.Native.Nat.{ℕ, zero, suc, _+_, _-_, _%_, _≤_}
 use native.Mathlib.Nat.{sub-zero}
@@ -12,7 +12,6 @@ use Rattle.raster.specs.declared.Registers.{Registers}
 use Rattle.raster.specs.declared.Frame.{Frame}
 use Rattle.raster.specs.declared.Raster.{Raster}
 use Rattle.longruns.specs.Ends.{endsNext, endsOf}
-use Rattle.longruns.proofs.Lines.{passed, passedOf}
 
 -- ---- a pulse
 
@@ -117,49 +116,40 @@ module _ (r : Registers) where
   near-line b y y′ true f n = near-step b y y′ (starts r f) (vsyncWidth r) n
   near-line b y y′ false f n = rw sub-zero n
 
-  alike-clock :
-      (a b : ℕ) (v w : Raster) → Alike r a b v w
-      → Alike r (a - 1) (b - endsNext v) (rasterClocked v) (rasterClocked w) × (endsNext v ≡ endsNext w)
-  alike-clock a b v w k = (
-    record {
-      column = _;
-      frame = if eqb x (r .r0) then frameMoved r (k .frame) else k .frame;
-      hsync = _;
-      hsync′ = _;
-      vsync = _;
-      vsync′ = _;
-      left = ap rasterClocked (k .left) ∙ screen-clocked x (k .hsync) (k .vsync) (k .frame) (eqb x (r .r0)) refl;
-      right = ap rasterClocked (k .right) ∙ screen-clocked x (k .hsync′) (k .vsync′) (k .frame) (eqb x (r .r0)) refl;
-      near-h = near-step a (k .hsync) (k .hsync′) (eqb (columnOn x) (r .r2)) (r .r3 % 16) (k .near-h);
-      near-v = rw (ap endsNext (k .left)) (near-line b (k .vsync) (k .vsync′) (eqb x (r .r0)) (frameMoved r (k .frame)) (k .near-v));
-    },
-    ap endsNext (k .left) ∙ sym (ap endsNext (k .right)),
-  )
-    where
-      x : ℕ
-      x = k .column
+  alike-clock : (a b : ℕ) (v w : Raster) → Alike r a b v w → Alike r (a - 1) (b - endsNext v) (rasterClocked v) (rasterClocked w)
+  alike-clock a b v w k =
+      let x = k .column in
+      record {
+        column = _;
+        frame = if eqb x (r .r0) then frameMoved r (k .frame) else k .frame;
+        hsync = _;
+        hsync′ = _;
+        vsync = _;
+        vsync′ = _;
+        left = ap rasterClocked (k .left) ∙ screen-clocked x (k .hsync) (k .vsync) (k .frame) (eqb x (r .r0)) refl;
+        right = ap rasterClocked (k .right) ∙ screen-clocked x (k .hsync′) (k .vsync′) (k .frame) (eqb x (r .r0)) refl;
+        near-h = near-step a (k .hsync) (k .hsync′) (eqb (columnOn x) (r .r2)) (r .r3 % 16) (k .near-h);
+        near-v = rw (ap endsNext (k .left)) (near-line b (k .vsync) (k .vsync′) (eqb x (r .r0)) (frameMoved r (k .frame)) (k .near-v));
+      }
 
   alike-as : (v w : Raster) {a b c d : ℕ} → a ≡ c → b ≡ d → Alike r a b v w → Alike r c d v w
   alike-as v w e o k = rw (← e, ← o) k
 
   alike-after :
       (n a b : ℕ) (v w : Raster) → Alike r a b v w
-      → Alike r (a - n) (b - endsOf n v) (after n rasterClocked v) (after n rasterClocked w) × (endsOf n v ≡ endsOf n w)
+      → Alike r (a - n) (b - endsOf n v) (after n rasterClocked v) (after n rasterClocked w)
   unfolding after endsOf
-  alike-after zero a b v w k = (alike-as v w (sym (sub-zero a)) (sym (sub-zero b)) k, refl)
+  alike-after zero a b v w k = alike-as v w (sym (sub-zero a)) (sym (sub-zero b)) k
   alike-after (suc n) a b v w k =
-      let i = alike-after n a b v w k in
-      let s = alike-clock _ _ _ _ (i .0) in
       let p : a - n - 1 ≡ a - suc n = omega arith in
       let q : b - endsOf n v - endsNext (after n rasterClocked v) ≡ b - (endsOf n v + endsNext (after n rasterClocked v)) = omega arith in
-      (alike-as _ _ p q (s .0), ap₂ _+_ (i .1) (s .1))
+      alike-as _ _ p q (alike-clock _ _ _ _ (alike-after n a b v w k))
 
   -- as many clocks and line ends as can be left of the two pulses
-  pub forgotten : (n a b : ℕ) (v w : Raster) → Alike r a b v w → a ≤ n → b ≤ endsOf n v → passedOf n v ≡ passedOf n w
+  pub forgotten :
+      (n a b : ℕ) (v w : Raster) → Alike r a b v w → a ≤ n → b ≤ endsOf n v → after n rasterClocked v ≡ after n rasterClocked w
   forgotten n a b v w k p q =
-      let i = alike-after n a b v w k in
-      let j = i .0 in
+      let j = alike-after n a b v w k in
       let x = near-none (a - n) _ _ (omega arith) (j .near-h) in
       let y = near-none (b - endsOf n v) _ _ (omega arith) (j .near-v) in
-      let e = j .left ∙ (λ t. screen r (j .column) (x t) (y t) (j .frame)) ∙ sym (j .right) in
-      ap₂ passed e (i .1)
+      j .left ∙ (λ t. screen r (j .column) (x t) (y t) (j .frame)) ∙ sym (j .right)

@@ -2,12 +2,12 @@
 use mathlib.Core.Path.{_≡_, refl, sym, ap, _∙_}
 use mathlib.Core.Bool.{Bool, true, _&&_}
 use Prim.Native.Nat.{ℕ, zero, suc, _+_, _-_, _*_, _/_, _%_, _<_, _≤_}
-use native.Mathlib.Nat.{add-mul, le-div-iff-mul-le, div-add-mod', mod-lt}
+use native.Mathlib.Nat.{add-mul, mul-le-mul-right, le-div-iff-mul-le, div-add-mod', mod-lt}
 use native.Mathlib.Omega.{arith}
 use lib.Dec.{ltb}
 use borrow.Author.Tests.{ltb-true}
 use Rattle.clocks.specs.Clocks.{after}
-use Rattle.clocks.proofs.Clocks.{after-keeps}
+use Rattle.clocks.proofs.Clocks.{after-add, after-keeps}
 use Rattle.clocks.proofs.Tests.{both}
 use Rattle.raster.specs.Record.{wellRaster}
 use Rattle.raster.specs.Clock.{frameMoved, lineEnded, rasterClocked}
@@ -19,17 +19,16 @@ use Rattle.raster.proofs.Formed.{formed}
 use Rattle.raster.proofs.Keeps.{clocked-well}
 use Rattle.raster.proofs.Runs.{raster}
 use Rattle.longruns.specs.Ends.{endsOf}
-use Rattle.longruns.specs.Places.{Counters, leaptOf}
-use Rattle.longruns.proofs.Lines.{Passed, passedOf, more, passed-add, Lined, lines-on, from-start}
+use Rattle.longruns.specs.Closed.{Counters, leaptOf}
+use Rattle.longruns.proofs.Lines.{Passed, Lined, lines-on, from-start}
 use Rattle.longruns.proofs.Forgets.{low, moved-vsync, lines-moved, Alike, forgotten}
 
 -- line ends of the counters leave VSYNC
 vsync-stays : (r : Registers) (f : Frame) (k : ℕ) → after k (frameMoved r) f .vsync ≡ f .vsync
-unfolding after
-vsync-stays r f zero = refl
-vsync-stays r f (suc k) =
-    let m = after k (frameMoved r) f in
-    ap (λ (x : Frame). x .vsync) (moved-vsync r (m .vsync) m) ∙ vsync-stays r f k
+vsync-stays r f k =
+    after-keeps (λ (x : Frame). x .vsync ≡ f .vsync) (frameMoved r)
+    (λ x e. ap (λ (y : Frame). y .vsync) (moved-vsync r (x .vsync) x) ∙ e)
+    k f refl
 
 module _ (v : Raster) (w : wellRaster v ≡ true) where
   abbrev r : Registers
@@ -85,7 +84,7 @@ module _ (v : Raster) (w : wellRaster v ≡ true) where
           column = 0;
           frame = after (suc k) (frameMoved r) (v .frame);
           hsync = lined .line .hsync;
-          hsync′ = 0;
+          hsync′ = leaptOf (suc k) v .line .hsync;
           vsync = on .vsync;
           vsync′ = after (suc k) (frameMoved r) (v .frame) .vsync;
           left = λ j. raster r (record { column = z j; hsync = lined .line .hsync }) (g j);
@@ -101,52 +100,39 @@ module _ (v : Raster) (w : wellRaster v ≡ true) where
         rw (from-start r (omega arith) (omega arith) t (lined .line) (lined .column) on)
         (le-div-iff-mul-le {k = width} {x = 16} {y = t} (omega arith) .1 l)
 
-    pub leap :
+    leap :
         (n t : ℕ) → n ≡ suc (gap (v .line .column) (r .r0)) + k * width + t → 16 * width ≤ t
-        → passedOf n v ≡ more (suc k) (passedOf t (leaptOf (suc k) v))
+        → after n rasterClocked v ≡ after t rasterClocked (leaptOf (suc k) v)
     leap n t e l =
-        ap (λ (x : ℕ). passedOf x v) e
-        ∙ passed-add _ t v
-        ∙ ap (λ (p : Passed). more (p .ends) (passedOf t (p .raster))) (lined .lined)
-        ∙ ap (more (suc k)) (forgotten r t 16 16 _ _ alike (omega arith) (many t l))
+        ap (λ (x : ℕ). after x rasterClocked v) e
+        ∙ after-add _ t rasterClocked v
+        ∙ ap (λ (p : Passed). after t rasterClocked (p .raster)) (lined .lined)
+        ∙ forgotten r t 16 16 _ _ alike (omega arith) (many t l)
 
-  -- as the code comes to it
-  module _ (n a : ℕ) (e : a ≡ gap (v .line .column) (r .r0)) (h : gap (v .line .column) (r .r0) + 20 * width < n) where
+  -- as the code comes to it: c lines are left, and d is one less
+  module _ (n a c d : ℕ) (e : a ≡ gap (v .line .column) (r .r0)) (o : c ≡ suc d) (h : 16 ≤ c) where
     abbrev past : ℕ
     past = n - a - 1
 
-    lines-many : 20 ≤ past / width
-    lines-many = le-div-iff-mul-le {k = width} {x = 20} {y = past} (omega arith) .1 (omega arith)
-
-    rest-most : past % width + 16 * width ≤ 4352
-    rest-most =
-        let f = formed v w in
-        let b = f .registers in
-        let m = mod-lt past {m = width} (omega arith) in
-        omega arith
-
-    leap-far : after n rasterClocked v ≡ after (past % width + 16 * width) rasterClocked (leaptOf (past / width - 15) v)
-    leap-far =
-        let k = past / width - 16 in
-        let l = lines-many in
-        let s : suc k ≡ past / width - 15 = omega arith in
-        let m : past / width * width ≡ k * width + 16 * width =
-        ap (λ (x : ℕ). x * width) (omega arith) ∙ add-mul k 16 width in
-        let t : n ≡ suc (gap (v .line .column) (r .r0)) + k * width + (past % width + 16 * width) =
+    leap-far :
+        a < n → c < past / width
+        → after n rasterClocked v ≡ after (past % width + c * width) rasterClocked (leaptOf (past / width - d) v)
+    leap-far l q =
+        let k = past / width - c in
+        let s : suc k ≡ past / width - d = omega arith in
+        let m : past / width * width ≡ k * width + c * width =
+        ap (λ (x : ℕ). x * width) (omega arith) ∙ add-mul k c width in
+        let t : n ≡ suc (gap (v .line .column) (r .r0)) + k * width + (past % width + c * width) =
         omega (arith, div-add-mod' past width, m) in
-        ap (λ (p : Passed). p .raster) (leap k n (past % width + 16 * width) t (omega arith))
-        ∙ ap (λ (x : ℕ). after (past % width + 16 * width) rasterClocked (leaptOf x v)) s
+        leap k n (past % width + c * width) t (omega (arith, mul-le-mul-right width h))
+        ∙ ap (λ (x : ℕ). after (past % width + c * width) rasterClocked (leaptOf x v)) s
 
 -- what the test for a leap says of n clocks, a of them before the one that ends the line
 pub record Far (v : Raster) (n a : ℕ) : Type 0 where
   pub well : wellRaster v ≡ true
-  pub past : suc a ≤ n
+  pub ends : a ≡ gap (v .line .column) (v .registers .r0)
+  pub past : a < n
   pub lines : 20 ≤ (n - a - 1) / (v .registers .r0 + 1)
-  pub rest : (n - a - 1) % (v .registers .r0 + 1) + 16 * (v .registers .r0 + 1) ≤ 4352
-  pub leaps :
-      after n rasterClocked v
-      ≡ after ((n - a - 1) % (v .registers .r0 + 1) + 16 * (v .registers .r0 + 1)) rasterClocked
-      (leaptOf ((n - a - 1) / (v .registers .r0 + 1) - 15) v)
 
 pub far-is :
     (v : Raster) (n a : ℕ) (b : Bool)
@@ -155,10 +141,24 @@ pub far-is :
 far-is v n a b e t q =
     let p = both _ _ (sym e ∙ t) in
     let h : gap (v .line .column) (v .registers .r0) + 20 * (v .registers .r0 + 1) < n = ltb-true _ _ (p .0) in
-    record {
-      well = p .1;
-      past = omega arith;
-      lines = lines-many v (p .1) n a q h;
-      rest = rest-most v (p .1) n a q h;
-      leaps = leap-far v (p .1) n a q h;
-    }
+    let l = le-div-iff-mul-le {k = v .registers .r0 + 1} {x = 20} {y = n - a - 1} (omega arith) .1 (omega arith) in
+    record { well = p .1; ends = q; past = omega arith; lines = l }
+
+module _ {v : Raster} {n a : ℕ} (f : Far v n a) where
+  pub rest-small : (n - a - 1) % (v .registers .r0 + 1) < 256
+  rest-small =
+      let g = formed v (f .well) in
+      let b = g .registers in
+      let m = mod-lt (n - a - 1) {m = v .registers .r0 + 1} (omega arith) in
+      omega arith
+
+  -- the leap, with c lines left and d one less
+  pub leaps :
+      (c d : ℕ) → c ≡ suc d → 16 ≤ c → c < 20
+      → after n rasterClocked v
+      ≡ after ((n - a - 1) % (v .registers .r0 + 1) + c * (v .registers .r0 + 1)) rasterClocked
+      (leaptOf ((n - a - 1) / (v .registers .r0 + 1) - d) v)
+  leaps c d o h l =
+      let p = f .past in
+      let q = f .lines in
+      leap-far v (f .well) n a c d (f .ends) o h p (omega arith)

@@ -16,7 +16,7 @@ use Rattle.raster.specs.declared.Line.{Line}
 use Rattle.raster.specs.declared.Frame.{Frame}
 use Rattle.raster.specs.declared.Raster.{Raster}
 use Rattle.raster.proofs.Runs.{raster, along-after, last, at-end, end-column, past-after}
-use Rattle.longruns.specs.Ends.{endsNext, endsOf}
+use Rattle.longruns.specs.Ends.{endsNext, endsOf, turnsOf}
 
 -- ---- clocks and then more of them
 
@@ -49,7 +49,7 @@ passed-add m n v = ap₂ passed (after-add m n rasterClocked v) (ends-add m n v)
 
 module _ (r : Registers) (b0 : r .r0 < 256) (b2 : r .r2 < 256) (l : Line) (b : l .column < 256) where
   -- k clocks before the one that ends the line
-  along-ends : (f : Frame) (k : ℕ) → k ≤ gap (l .column) (r .r0) → endsOf k (raster r l f) ≡ 0
+  pub along-ends : (f : Frame) (k : ℕ) → k ≤ gap (l .column) (r .r0) → endsOf k (raster r l f) ≡ 0
   unfolding endsOf
   along-ends f zero h = refl
   along-ends f (suc k) h =
@@ -90,8 +90,8 @@ module _ (r : Registers) (b0 : r .r0 < 256) (b2 : r .r2 < 256) where
       }
 
   -- j line ends, and k more
-  then : (l : Line) (f : Frame) (m n j k : ℕ) (a : Lined r l f m j) → Lined r (a .line) (after j (lineEnded r) f) n k → Lined r l f (m + n) (j + k)
-  then l f m n j k a b =
+  lined-then : (l : Line) (f : Frame) (m n j k : ℕ) (a : Lined r l f m j) → Lined r (a .line) (after j (lineEnded r) f) n k → Lined r l f (m + n) (j + k)
+  lined-then l f m n j k a b =
       record {
         line = b .line;
         column = b .column;
@@ -115,14 +115,14 @@ module _ (r : Registers) (b0 : r .r0 < 256) (b2 : r .r2 < 256) where
       let e : k * (r .r0 + 1) + suc (gap (a .line .column) (r .r0)) ≡ suc k * (r .r0 + 1) = omega (arith, suc-mul k (r .r0 + 1)) in
       let o : k + 1 ≡ suc k = omega arith in
       let b = first-line (a .line) (omega arith) (after k (lineEnded r) f) in
-      lined-as l f e o (then l f (k * (r .r0 + 1)) _ k 1 a b)
+      lined-as l f e o (lined-then l f (k * (r .r0 + 1)) _ k 1 a b)
 
   -- this line's rest, and k lines
   pub lines-on : (k : ℕ) (l : Line) → l .column < 256 → (f : Frame) → Lined r l f (suc (gap (l .column) (r .r0)) + k * (r .r0 + 1)) (suc k)
   lines-on k l b f =
       let a = first-line l b f in
       let o : 1 + k ≡ suc k = omega arith in
-      lined-as l f refl o (then l f (suc (gap (l .column) (r .r0))) (k * (r .r0 + 1)) 1 k a (whole-lines k (a .line) (a .column) _))
+      lined-as l f refl o (lined-then l f (suc (gap (l .column) (r .r0))) (k * (r .r0 + 1)) 1 k a (whole-lines k (a .line) (a .column) _))
 
   -- ---- line ends by division
 
@@ -139,10 +139,7 @@ module _ (r : Registers) (b0 : r .r0 < 256) (b2 : r .r2 < 256) where
       ∙ ap₂ _+_ (ap (λ (p : Passed). p .ends) (a .lined)) (ap (λ (p : Passed). endsOf (n % w) (p .raster)) (a .lined) ∙ o)
       ∙ add-zero (n / w)
 
-  -- from anywhere: none before the line's end, and from there on one each R0 + 1 clocks
-  pub ends-none : (n : ℕ) (l : Line) → l .column < 256 → (f : Frame) → n ≤ gap (l .column) (r .r0) → endsOf n (raster r l f) ≡ 0
-  ends-none n l b f h = along-ends r b0 b2 l b f n h
-
+  -- from anywhere, past the line's end: one there, and from there on one each R0 + 1 clocks
   pub ends-some :
       (n : ℕ) (l : Line) → l .column < 256 → (f : Frame) → gap (l .column) (r .r0) < n
       → endsOf n (raster r l f) ≡ (n - gap (l .column) (r .r0) - 1) / (r .r0 + 1) + 1
@@ -162,7 +159,7 @@ module _ (r : Registers) (b0 : r .r0 < 256) (b2 : r .r2 < 256) where
   ends-most n l b f = go (decLt (gap (l .column) (r .r0)) n)
     where
       go : Dec (gap (l .column) (r .r0) < n) → endsOf n (raster r l f) ≤ n / (r .r0 + 1) + 1
-      go (no h) = rw (ends-none n l b f (omega arith)) zero-le
+      go (no h) = rw (along-ends r b0 b2 l b f n (omega arith)) zero-le
       go (yes h) =
           let m = n - gap (l .column) (r .r0) - 1 in
           let d : m / (r .r0 + 1) ≤ n / (r .r0 + 1) =
@@ -180,3 +177,15 @@ ends-fit (suc n) v =
     let h = ends-fit n v in
     let e : endsNext u ≤ 1 = picked (λ (k : ℕ). k ≤ 1) (endsLine (u .registers) (u .line)) (lit≤ tt) zero-le in
     omega arith
+
+-- ---- turns
+
+pub turns-some : (n : ℕ) (v : Raster) → (n ≡ 0 → ⊥) → endsOf n v + 1 ≡ turnsOf n v
+unfolding turnsOf
+turns-some zero v z = absurd (z refl)
+turns-some (suc n) v z = refl
+
+pub turns-few : (n : ℕ) (v : Raster) → turnsOf n v ≤ n + 1
+unfolding turnsOf
+turns-few zero v = zero-le
+turns-few (suc n) v = omega (arith, ends-fit (suc n) v)

@@ -14,7 +14,7 @@ use Rattle.clocks.proofs.Turns.{one-more, Within, Turned, Turns, after-short, a
 use Rattle.raster.specs.Clock.{withScan, withRow, withRowStart, withAdjust, rowDone, newFrame, adjustMoved, rowEnded, frameMoved}
 use Rattle.raster.specs.declared.Registers.{Registers}
 use Rattle.raster.specs.declared.Frame.{Frame}
-use Rattle.longruns.specs.Places.{Counters, rowsAfter, endsBefore, inRow, inAdjust, rowsLeft, LeftFits, atRow, placeOf, withField, frameOn}
+use Rattle.longruns.specs.Closed.{Counters, rowsAfter, endsBefore, inRow, inAdjust, rowsLeft, LeftFits, atRow, placeOf, withField}
 
 pub rest-fits : (m b : ℕ) → m % (b + 1) ≤ b
 rest-fits m b = let l = mod-lt m {m = b + 1} (omega arith) in omega arith
@@ -50,15 +50,6 @@ lines-most a b h l = mul-le-mul {n₂ = 127} {m₂ = 32} (omega arith) (omega ar
 
 pub growth-most : (a b : ℕ) → a < 256 → b ≤ 128 → a * b ≤ 32640
 growth-most a b h l = mul-le-mul {n₂ = 255} {m₂ = 128} (omega arith) l
-
--- the rows still to come, as the code picks them: w is the rows after this one
-pub left-first : (r : Registers) (f : Frame) (x w : ℕ) → w ≡ rowsAfter r f → w < x / (r .r9 + 1) → w ≡ rowsLeft r f x
-left-first r f x w e h =
-    e ∙ sym (on-true (ltb (rowsAfter r f) (x / (r .r9 + 1))) _ _ (lt-ltb (rowsAfter r f) (x / (r .r9 + 1)) (omega arith)))
-
-pub left-whole : (r : Registers) (f : Frame) (x w : ℕ) → w ≡ rowsAfter r f → x / (r .r9 + 1) ≤ w → x / (r .r9 + 1) ≡ rowsLeft r f x
-left-whole r f x w e h =
-    sym (on-false (ltb (rowsAfter r f) (x / (r .r9 + 1))) _ _ (le-ltb (rowsAfter r f) (x / (r .r9 + 1)) (omega arith)))
 
 module _ (r : Registers) (b4 : r .r4 < 128) (b5 : r .r5 < 32) (b9 : r .r9 < 32) (f : Frame) where
   -- ---- one line end
@@ -127,14 +118,14 @@ module _ (r : Registers) (b4 : r .r4 < 128) (b5 : r .r5 < 32) (b9 : r .r9 < 32) 
   abbrev tall : ℕ
   tall = r .r9 + 1
 
-  left-all : (x : ℕ) → rowsAfter r f ≤ x / tall → rowsLeft r f x ≡ rowsAfter r f
+  pub left-all : (x : ℕ) → rowsAfter r f ≤ x / tall → rowsLeft r f x ≡ rowsAfter r f
   left-all x h = go (decLt (rowsAfter r f) (x / tall))
     where
       go : Dec (rowsAfter r f < x / tall) → rowsLeft r f x ≡ rowsAfter r f
       go (yes l) = rw (lt-ltb (rowsAfter r f) (x / tall) l)
       go (no n) = rw (le-ltb (rowsAfter r f) (x / tall) (omega arith)) (omega arith)
 
-  left-some : (x : ℕ) → x / tall ≤ rowsAfter r f → rowsLeft r f x ≡ x / tall
+  pub left-some : (x : ℕ) → x / tall ≤ rowsAfter r f → rowsLeft r f x ≡ x / tall
   left-some x h = rw (le-ltb (rowsAfter r f) (x / tall) h)
 
   pub left-fits : (x : ℕ) → x ≤ 31 + rowsAfter r f * tall → LeftFits r f x (rowsLeft r f x)
@@ -191,9 +182,9 @@ module _ (r : Registers) (b4 : r .r4 < 128) (b5 : r .r5 < 32) (b9 : r .r9 < 32) 
     abbrev scans : ℕ
     scans = (r .r9 + 32 - f .scan) % 32
 
-    row-start : f .adjusting ≡ false → inRow r f (rowsAfter r f) scans ≡ f
+    row-begins : f .adjusting ≡ false → inRow r f (rowsAfter r f) scans ≡ f
     unfolding inRow rowsAfter
-    row-start e =
+    row-begins e =
         let w = rowsAfter r f in
         let a : (r .r4 + 128 - w) % 128 ≡ f .row = omega arith in
         let b : (r .r9 + 32 - scans) % 32 ≡ f .scan = omega arith in
@@ -209,12 +200,12 @@ module _ (r : Registers) (b4 : r .r4 < 128) (b5 : r .r5 < 32) (b9 : r .r9 < 32) 
           field = f .field;
         }
 
-    rows-start : f .adjusting ≡ false → atRow r f (scans + rowsAfter r f * tall) ≡ f
-    rows-start e =
+    rows-begin : f .adjusting ≡ false → atRow r f (scans + rowsAfter r f * tall) ≡ f
+    rows-begin e =
         let x = scans + rowsAfter r f * tall in
         let d : x / tall ≡ scans / tall + rowsAfter r f = add-mul-div-right scans (rowsAfter r f) (omega arith) in
         let u : x - rowsAfter r f * tall ≡ scans = omega arith in
-        rw (left-all x (omega (arith, d)), u) (row-start e)
+        rw (left-all x (omega (arith, d)), u) (row-begins e)
 
     -- in adjust from the start
     module _ (e : f .adjusting ≡ true) where
@@ -247,7 +238,7 @@ module _ (r : Registers) (b4 : r .r4 < 128) (b5 : r .r5 < 32) (b9 : r .r9 < 32) 
       start-false =
           let k = scans + rowsAfter r f * tall + r .r5 in
           let x : k - r .r5 ≡ scans + rowsAfter r f * tall = omega arith in
-          ap (placeOf r f) (before-false r f e) ∙ place-row r f k e (omega arith) ∙ ap (atRow r f) x ∙ rows-start e
+          ap (placeOf r f) (before-false r f e) ∙ place-row r f k e (omega arith) ∙ ap (atRow r f) x ∙ rows-begin e
 
       -- the last row has none after it, and its last scan line none
       last-row : atRow r f 0 ≡ ended
@@ -307,6 +298,10 @@ module _ (r : Registers) (b4 : r .r4 < 128) (b5 : r .r5 < 32) (b9 : r .r9 < 32) 
     place-passes = by-adjusting _ passes-true passes-false
 
 -- ---- new frames
+
+-- the first line of the frame that comes q frames after the next
+pub frameOn : Registers → Frame → ℕ → Frame
+frameOn r f q = withField ((newFrame r f .field + q) % 32) (newFrame r f)
 
 module _ (r : Registers) (f : Frame) (h : Counters r f) where
   pub on-counters : (q : ℕ) → Counters r (frameOn r f q)

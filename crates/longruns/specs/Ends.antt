@@ -1,4 +1,4 @@
--- The line ends that clocks pass.
+-- The line ends that clocks pass, and their turns.
 use Prim.Native.Nat.{ℕ, zero, suc, _+_}
 use Rattle.clocks.specs.Clocks.{if_then_else_, after}
 use Rattle.raster.specs.Clock.{endsLine, rasterClocked}
@@ -12,3 +12,8 @@ endsNext v = if endsLine (v .registers) (v .line) then 1 else 0
 unfoldable pub endsOf : ℕ → Raster → ℕ
 endsOf zero v = 0
 endsOf (suc n) v = endsOf n v + endsNext (after n rasterClocked v)
+
+-- the turns of n clocks: one more than the line ends that they pass, and none where there is no clock
+unfoldable pub turnsOf : ℕ → Raster → ℕ
+turnsOf zero v = 0
+turnsOf (suc n) v = endsOf (suc n) v + 1

@@ -7,8 +7,8 @@ ghost use Rattle.clocks.specs.Clocks.{after};
 ghost use Rattle.raster.specs.Record.{wellRaster};
 ghost use Rattle.raster.specs.Clock.{rasterClocked};
 ghost use Rattle.raster.specs.Closed.{gap};
-ghost use Rattle.longruns.specs.Ends.{endsOf};
-ghost use Rattle.longruns.specs.Places.{leaptOf};
+ghost use Rattle.longruns.specs.Ends.{endsOf, turnsOf};
+ghost use Rattle.longruns.specs.Closed.{leaptOf};
 use raster::Line;
 use raster::Raster;
 
@@ -48,8 +48,8 @@ fn leapt(mut raster: Raster, skipped: u32) -> Raster
     raster
 }
 
-// n clocks, in a number of steps that does not grow with n. After a leap at least sixteen lines are run, and neither HSYNC nor VSYNC lasts
-// longer than that: both come right in them.
+// n clocks; of a well-formed raster in a number of steps that does not grow with n, of any other a line at a time. After a leap at least
+// sixteen lines are run, and neither HSYNC nor VSYNC lasts longer than that: both come right in them.
 pub fn run(mut raster: Raster, n: u32) -> Raster
     ensures { λ r. ⌜ r ≡ after n rasterClocked raster ⌝ }
 {
@@ -68,8 +68,19 @@ pub fn ends(raster: Raster, n: u32) -> u32
     ensures { λ r. ⌜ r ≡ endsOf n raster ⌝ }
 {
     let first = ahead(raster);
-    if n <= first {
+    if first < n {
+        (n - first - 1) / (raster.registers.r0 as u32 + 1) + 1
+    } else {
+        0
+    }
+}
+
+// With R0 at 0 the longest run has 4,294,967,296 of them.
+pub fn turns(raster: Raster, n: u32) -> u64
+    ensures { λ r. ⌜ r ≡ turnsOf n raster ⌝ }
+{
+    if n == 0 {
         return 0;
     }
-    (n - first - 1) / (raster.registers.r0 as u32 + 1) + 1
+    ends(raster, n) as u64 + 1
 }

@@ -3,7 +3,7 @@ ghost use mathlib.Core.Path.{_≡_};
 ghost use Prim.Native.Nat.{_+_, _*_, _%_, _<_, _≤_};
 ghost use Rattle.clocks.specs.Clocks.{after};
 ghost use Rattle.raster.specs.Clock.{frameMoved};
-ghost use Rattle.longruns.specs.Places.{Counters, rowsAfter, endsBefore, inAdjust, rowsLeft, LeftFits, atRow, placeOf, withField};
+ghost use Rattle.longruns.specs.Closed.{Counters, rowsAfter, endsBefore, inAdjust, rowsLeft, LeftFits, atRow, placeOf, withField};
 use raster::Frame;
 use raster::Registers;
 
@@ -44,7 +44,8 @@ fn row_start(frame: Frame, registers: Registers, rows: u32) -> u16
     ((frame.row_start as u32 + registers.r1 as u32 * rows) % 16384) as u16
 }
 
-// The rows that are still to come, x line ends before the last of the rows'.
+// The rows that are still to come, x line ends before the one that ends the last row. A first row that was entered above R9 has more lines
+// than the others, and counts as one row all the same.
 fn rows_left(frame: Frame, registers: Registers, x: u32) -> u32
     requires { ⌜ Counters registers frame × (x ≤ 31 + rowsAfter registers frame * (registers .r9 + 1)) ⌝ }
     ensures { λ r. ⌜ (r ≡ rowsLeft registers frame x) × (r < 128) × LeftFits registers frame x r ⌝ }
@@ -54,7 +55,7 @@ fn rows_left(frame: Frame, registers: Registers, x: u32) -> u32
     if rows < whole { rows } else { whole }
 }
 
-// The frame in a row, x line ends before the last of the rows'.
+// The frame in a row, x line ends before the one that ends the last row.
 fn at_row(mut frame: Frame, registers: Registers, x: u32) -> Frame
     requires { ⌜ Counters registers frame × (x ≤ 31 + rowsAfter registers frame * (registers .r9 + 1)) ⌝ }
     ensures { λ r. ⌜ r ≡ atRow registers frame x ⌝ }
@@ -103,7 +104,7 @@ fn place(mut frame: Frame, registers: Registers, k: u32) -> Frame
     at_row(frame, registers, k - adjusts)
 }
 
-// So many frames on.
+// The same line so many frames on, as far as the field tells.
 fn fields_on(mut frame: Frame, frames: u32) -> Frame
     ensures { λ r. ⌜ r ≡ withField ((frame .field + frames) % 32) frame ⌝ }
 {

@@ -127,10 +127,10 @@ impl Raster {
         let line = self.line;
         let frame = self.frame;
         self.line = line.clocked(registers);
-        if line.column == registers.r0 {
-            self.frame = frame.line_ended(registers);
+        if line.column != registers.r0 {
             return self;
         }
+        self.frame = frame.line_ended(registers);
         self
     }
 

@@ -5,7 +5,7 @@ use Rattle.calling.proofs.turns45.Statement.{statement}
 use Rattle.calling.proofs.turns45.Tie as tie
 
 returns : tie.Need-returns
-returns c = c .turns-of .ensures ∙ sym (on-true (c .before .before .args .counted) _ 0 (c .before .if1 .taken))
+returns c = c .turns .ensures ∙ sym (on-true (c .before .before .before .args .counted) _ 0 (c .before .before .if1 .taken))
 
 returns-2 : tie.Need-returns-2
 returns-2 c = sym (on-false (c .before .args .counted) _ 0 (c .if1 .left))

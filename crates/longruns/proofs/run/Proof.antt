@@ -1,12 +1,13 @@
 use borrow.Author.Needs.{needs}
 use mathlib.Core.Logic.{⊎-elim}
-use mathlib.Core.Path.{sym, ap₂, _∙_}
+use mathlib.Core.Path.{refl, sym, ap₂, _∙_}
 use Prim.Native.Nat.{ℕ}
+use lib.Dec.{lit<, lit≤}
 use native.Mathlib.Omega.{arith}
 use Rattle.clocks.specs.Clocks.{after}
 use Rattle.raster.specs.Clock.{rasterClocked}
 use Rattle.raster.specs.declared.Raster.{Raster}
-use Rattle.longruns.proofs.Leaps.{far-is}
+use Rattle.longruns.proofs.Leaps.{far-is, rest-small, leaps}
 use Rattle.longruns.proofs.run.Statement.{statement}
 use Rattle.longruns.proofs.run.Tie as tie
 
@@ -43,7 +44,7 @@ add-left c =
     let i = c .before .before .before in
     let s = i .before .before in
     let f = far-is (s .args .raster) (s .args .n) _ _ (i .before .far .ensures) (i .if1 .taken) (c .before .ahead .ensures .0) in
-    omega arith
+    omega (arith, rest-small f)
 
 returns : tie.Need-returns
 returns c =
@@ -53,7 +54,7 @@ returns c =
     ∙ ⊎-elim
     (λ p.
     ap₂ (λ (k : ℕ) (x : Raster). after k rasterClocked x) (p .5) (p .4 ∙ p .3 .ensures)
-    ∙ sym (far-is (s .args .raster) (s .args .n) _ _ (b .far .ensures) (p .0 .taken) (p .2 .ensures .0) .leaps))
+    ∙ sym (leaps (far-is (s .args .raster) (s .args .n) _ _ (b .far .ensures) (p .0 .taken) (p .2 .ensures .0)) _ _ refl (lit≤ tt) (lit< tt)))
     (λ p. ap₂ (λ (k : ℕ) (x : Raster). after k rasterClocked x) (p .2) (p .1))
     (c .before .if1 .came)
 

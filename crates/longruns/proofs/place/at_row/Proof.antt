@@ -1,6 +1,6 @@
 use borrow.Author.Needs.{needs}
 use native.Mathlib.Omega.{arith}
-use Rattle.longruns.specs.Places.{inRow}
+use Rattle.longruns.specs.Closed.{inRow}
 use Rattle.longruns.proofs.place.at_row.Statement.{statement}
 use Rattle.longruns.proofs.place.at_row.Tie as tie
 

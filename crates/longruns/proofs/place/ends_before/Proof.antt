@@ -2,7 +2,7 @@ use borrow.Author.Needs.{needs}
 use mathlib.Core.Path.{sym, _∙_}
 use native.Mathlib.Omega.{arith}
 use Rattle.clocks.proofs.Tests.{on-true, on-false}
-use Rattle.longruns.specs.Places.{endsBefore}
+use Rattle.longruns.specs.Closed.{endsBefore}
 use Rattle.longruns.proofs.place.ends_before.Statement.{statement}
 use Rattle.longruns.proofs.place.ends_before.Tie as tie
 

@@ -2,7 +2,7 @@ use borrow.Author.Needs.{needs}
 use mathlib.Core.Path.{_≡_, ap}
 use Prim.Native.Nat.{ℕ, _+_, _%_}
 use native.Mathlib.Omega.{arith}
-use Rattle.longruns.specs.Places.{withField}
+use Rattle.longruns.specs.Closed.{withField}
 use Rattle.longruns.proofs.place.fields_on.Statement.{statement}
 use Rattle.longruns.proofs.place.fields_on.Tie as tie
 

@@ -1,5 +1,5 @@
 use borrow.Author.Needs.{needs}
-use Rattle.longruns.specs.Places.{inAdjust}
+use Rattle.longruns.specs.Closed.{inAdjust}
 use Rattle.longruns.proofs.place.in_adjust.Statement.{statement}
 use Rattle.longruns.proofs.place.in_adjust.Tie as tie
 

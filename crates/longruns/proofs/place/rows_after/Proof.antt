@@ -1,7 +1,7 @@
 use borrow.Author.Needs.{needs}
 use mathlib.Core.Path.{refl}
 use native.Mathlib.Omega.{arith}
-use Rattle.longruns.specs.Places.{rowsAfter}
+use Rattle.longruns.specs.Closed.{rowsAfter}
 use Rattle.longruns.proofs.place.rows_after.Statement.{statement}
 use Rattle.longruns.proofs.place.rows_after.Tie as tie
 

@@ -1,6 +1,7 @@
 use borrow.Author.Needs.{needs}
+use mathlib.Core.Path.{sym, _∙_}
 use native.Mathlib.Omega.{arith}
-use Rattle.longruns.proofs.Places.{left-first, left-whole, left-fits}
+use Rattle.longruns.proofs.Places.{left-all, left-some, left-fits}
 use Rattle.longruns.proofs.place.rows_left.Statement.{statement}
 use Rattle.longruns.proofs.place.rows_left.Tie as tie
 
@@ -9,7 +10,7 @@ returns c =
     let s = c .before .before .before in
     let h = s .pre .0 in
     let e = c .before .before .rows-after .ensures in
-    let q = left-first (s .args .registers) (s .args .frame) (s .args .x) _ (e .0) (c .if1 .taken) in
+    let q = e .0 ∙ sym (left-all (s .args .registers) (h .r4) (h .r5) (h .r9) (s .args .frame) (s .args .x) (omega (arith, e .0, c .if1 .taken))) in
     let l = rw (← q) at (left-fits (s .args .registers) (h .r4) (h .r5) (h .r9) (s .args .frame) (s .args .x) (s .pre .1)) in
     (q, omega arith, l)
 
@@ -18,7 +19,7 @@ returns-2 c =
     let s = c .before .before .before in
     let h = s .pre .0 in
     let e = c .before .before .rows-after .ensures in
-    let q = left-whole (s .args .registers) (s .args .frame) (s .args .x) _ (e .0) (c .if1 .left) in
+    let q = sym (left-some (s .args .registers) (h .r4) (h .r5) (h .r9) (s .args .frame) (s .args .x) (omega (arith, e .0, c .if1 .left))) in
     let l = rw (← q) at (left-fits (s .args .registers) (h .r4) (h .r5) (h .r9) (s .args .frame) (s .args .x) (s .pre .1)) in
     (q, omega arith, l)
 

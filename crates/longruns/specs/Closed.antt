@@ -4,12 +4,12 @@ use Prim.Native.Nat.{ℕ, _+_, _-_, _*_, _/_, _%_, _<_, _≤_}
 use lib.Dec.{ltb}
 use Rattle.clocks.specs.Clocks.{if_then_else_, after}
 use Rattle.raster.specs.Record.{startOf}
-use Rattle.raster.specs.Clock.{withAdjust, newFrame, frameMoved}
+use Rattle.raster.specs.Clock.{withAdjust, frameMoved}
 use Rattle.raster.specs.declared.Registers.{Registers}
 use Rattle.raster.specs.declared.Frame.{Frame}
 use Rattle.raster.specs.declared.Raster.{Raster}
 
--- the ranges that this asks of the counters that line ends move, and of the registers that they are held against
+-- the ranges that the counters of a frame have to be in, and those of the registers that they are held against
 pub record Counters (r : Registers) (f : Frame) : Type 0 where
   pub r4 : r .r4 < 128
   pub r5 : r .r5 < 32
@@ -60,11 +60,12 @@ inAdjust r f a =
       field = f .field;
     }
 
--- the rows still to come, x line ends before the last of the rows': never more than there were
+-- the rows still to come, x line ends before the one that ends the last row; a first row that is longer than the others, being entered above
+-- R9, does not count for more than one
 abbrev pub rowsLeft : Registers → Frame → ℕ → ℕ
 rowsLeft r f x = if ltb (rowsAfter r f) (x / (r .r9 + 1)) then rowsAfter r f else x / (r .r9 + 1)
 
--- these are no more than there were, their lines are among the x, and the others are of one row
+-- there are no more of them than there were, their lines are no more than x, and what is left of x is no more than one row can have
 abbrev pub LeftFits : Registers → Frame → ℕ → ℕ → Type 0
 LeftFits r f x s = (s ≤ rowsAfter r f) × (s * (r .r9 + 1) ≤ x) × (x - s * (r .r9 + 1) ≤ 31)
 
@@ -90,10 +91,6 @@ withField x f =
       vsync = f .vsync;
       field = x;
     }
-
--- the first line of the frame that comes q frames after the next
-unfoldable pub frameOn : Registers → Frame → ℕ → Frame
-frameOn r f q = withField ((newFrame r f .field + q) % 32) (newFrame r f)
 
 -- a leap over k line ends comes to the start of a line, with no HSYNC, and VSYNC as it was
 abbrev pub leaptOf : ℕ → Raster → Raster
