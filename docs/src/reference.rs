@@ -1245,11 +1245,12 @@ impl Chip6545 {
         line_ends
     }
 
-    /// Goes from column 0 to column 0. Where a frame begins, the counters are
-    /// held against those with which the last one began. If they are the same,
-    /// the frame just gone would come again and again, and as many more of it
-    /// as there are clocks for are left out. It soon is so, since beginnings
-    /// differ in nothing but what is left of the two sync pulses.
+    /// Goes from column 0 to column 0, and the first time from wherever the
+    /// column is. Where a frame begins, the counters are held against those
+    /// with which the last one began. If they are the same, the frame just gone
+    /// would come again and again, and as many more of it as there are clocks
+    /// for are left out. It soon is so, since beginnings differ in nothing but
+    /// what is left of the two sync pulses.
     #[inline(never)]
     fn steps(&mut self, clocks: u32) -> u32 {
         let mut line_ends = 0;
