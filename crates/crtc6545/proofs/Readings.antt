@@ -4,7 +4,7 @@ use mathlib.Core.Bool.{Bool, false, _&&_}
 use Prim.Native.Nat.{ℕ}
 use borrow.Author.Tests.{eq-eqb, ne-eqb}
 use Rattle.clocks.specs.Clocks.{after}
-use Rattle.chips.specs.Chips.{first}
+use Rattle.chips.specs.Chips.{first, answer}
 use Rattle.chips.proofs.Chips.{accepts, refuses}
 use Rattle.calls.specs.declared.Call45.the-variants.{Read, Run}
 use Rattle.crtc6545.specs.Access.{dataOf, undrivenOf, readOf}
@@ -33,6 +33,10 @@ module _ (a : ℕ) (v : Crtc) (k : ℕ) (e : k ≡ first chip (Read a) v) where
       ap₂ reading
       (ap (λ (b : Bool). b && undrivenOf a v) (ne-eqb (first chip (Read a) v) 0 (λ q. z (e ∙ q))))
       (refuses chip (Read a) v k e z)
+
+pub with-turns : (n : ℕ) (b : Bool) (v : Crtc) (r : Answer) → r ≡ answer chip (Run n b) v → withTurns n v r ≡ runningOf n b v
+unfolding runningOf
+with-turns n b v r e = ap (withTurns n v) e
 
 abbrev pub running : ℕ → Answer → Running
 running k r = record { turns = k; answer = r }

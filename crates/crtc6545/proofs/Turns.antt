@@ -9,9 +9,8 @@ use lib.Dec.{ltb}
 use borrow.Author.Tests.{ne-eqb, ltb-false}
 use Rattle.clocks.specs.Clocks.{if_then_else_, after}
 use Rattle.clocks.proofs.Tests.{on-true, on-false}
-use Rattle.clocks.proofs.Clocks.{after-keeps}
 use Rattle.chips.specs.Chips.{first}
-use Rattle.chips.proofs.Chips.{accepts-only-well}
+use Rattle.chips.proofs.Chips.{accepts-only-well, runs-well}
 use Rattle.calls.specs.declared.Call45.the-variants.{Run}
 use Rattle.raster.specs.Clock.{rasterClocked}
 use Rattle.raster.specs.declared.Raster.{Raster}
@@ -20,13 +19,12 @@ use Rattle.longruns.specs.Ends.{endsOf, turnsOf}
 use Rattle.longruns.proofs.Lines.{ends-add, ends-most, turns-few}
 use Rattle.crtc6545.specs.Record.{wellFormed}
 use Rattle.crtc6545.specs.Clock.{clockOf, joined, longestRun, runAsks}
-use Rattle.crtc6545.specs.Chip.{chip, accepted, refused, runningOf}
+use Rattle.crtc6545.specs.Chip.{chip, accepted, refused, clocked, runningOf}
 use Rattle.crtc6545.specs.Demands
 use Rattle.crtc6545.specs.declared.Crtc.{Crtc}
 use Rattle.crtc6545.specs.declared.Running.{Running}
 use Rattle.crtc6545.proofs.Formed.{formed}
-use Rattle.crtc6545.proofs.Keeps.{clock-kept}
-use Rattle.crtc6545.proofs.Lawful.{run-taken}
+use Rattle.crtc6545.proofs.Lawful.{run-taken, lawful, ticks}
 use Rattle.crtc6545.proofs.Readings.{running, runs, runs-none}
 
 -- ---- clocks of the raster
@@ -51,11 +49,11 @@ raster-after zero v = refl
 raster-after (suc n) v = ap rasterClocked (raster-after n v)
 
 module _ (n : ℕ) (b : Bool) (v : Crtc) where
-  runs-well : wellFormed v ≡ true → n ≤ longestRun b → runningOf n b v ≡ running (turnsOf n (v .raster)) (accepted 0 (after n clockOf v))
-  runs-well w h = runs n b v 0 (sym (on-true (wellFormed v) _ _ w ∙ run-taken n b h)) refl
+  running-well : wellFormed v ≡ true → n ≤ longestRun b → runningOf n b v ≡ running (turnsOf n (v .raster)) (accepted 0 (after n clockOf v))
+  running-well w h = runs n b v 0 (sym (on-true (wellFormed v) _ _ w ∙ run-taken n b h)) refl
 
-  runs-ill : wellFormed v ≡ false → runningOf n b v ≡ running 0 (refused 1 v)
-  runs-ill w = runs-none n b v 1 (sym (on-false (wellFormed v) _ _ w)) (λ z. omega (arith, z))
+  running-ill : wellFormed v ≡ false → runningOf n b v ≡ running 0 (refused 1 v)
+  running-ill w = runs-none n b v 1 (sym (on-false (wellFormed v) _ _ w)) (λ z. omega (arith, z))
 
   -- a property of 0, and of the turns of a run that is not refused
   turns-by :
@@ -74,19 +72,16 @@ pub turns-add : Demands.Turns-add
 unfolding accepted refused
 turns-add b v m n h = go (wellFormed v) refl
   where
-    kept : (n : ℕ) → wellFormed v ≡ true → wellFormed (after n clockOf v) ≡ true
-    kept n w = after-keeps (λ (u : Crtc). wellFormed u ≡ true) clockOf clock-kept n v w
-
     go :
         (t : Bool) → wellFormed v ≡ t
         → runningOf (m + n) b v .turns ≡ joined (runningOf m b v .turns) (runningOf n b (runningOf m b v .answer .crtc) .turns)
     go true w =
         unfold accepted in
-        rw (runs-well (m + n) b v w h, runs-well m b v w (omega arith), runs-well n b (after m clockOf v) (kept m w) (omega arith), raster-after m v)
+        rw (running-well (m + n) b v w h, running-well m b v w (omega arith), running-well n b (after m clockOf v) (runs-well chip lawful (clocked b) (ticks b) m v w) (omega arith), raster-after m v)
         (turns-join m n (v .raster))
     go false w =
         unfold refused in
-        rw (runs-ill (m + n) b v w, runs-ill m b v w, runs-ill n b v w)
+        rw (running-ill (m + n) b v w, running-ill m b v w, running-ill n b v w)
 
 pub turns-most : Demands.Turns-most
 turns-most b v n = turns-by n b v (λ k. k ≤ n / (v .raster .registers .r0 + 1) + 2) zero-le (λ w e. most n w)
@@ -114,5 +109,5 @@ pub turns-apart : Demands.Turns-apart
 turns-apart v n h = go (wellFormed v) refl
   where
     go : (t : Bool) → wellFormed v ≡ t → runningOf n true v ≡ runningOf n false v
-    go true w = runs-well n true v w h ∙ sym (runs-well n false v w (omega arith))
-    go false w = runs-ill n true v w ∙ sym (runs-ill n false v w)
+    go true w = running-well n true v w h ∙ sym (running-well n false v w (omega arith))
+    go false w = running-ill n true v w ∙ sym (running-ill n false v w)

@@ -16,9 +16,6 @@ use Rattle.raster.specs.declared.Registers.{Registers}
 use Rattle.raster.specs.declared.Frame.{Frame}
 use Rattle.longruns.specs.Closed.{Counters, rowsAfter, endsBefore, inRow, inAdjust, rowsLeft, LeftFits, atRow, placeOf, withField}
 
-pub rest-fits : (m b : ℕ) → m % (b + 1) ≤ b
-rest-fits m b = let l = mod-lt m {m = b + 1} (omega arith) in omega arith
-
 -- ---- the cases of the definitions
 
 pub before-true : (r : Registers) (f : Frame) → f .adjusting ≡ true → endsBefore r f ≡ (r .r5 + 31 - f .adjust) % 32
@@ -43,7 +40,7 @@ pub place-row : (r : Registers) (f : Frame) (k : ℕ) → f .adjusting ≡ false
 unfolding placeOf
 place-row r f k e h = on-false (f .adjusting) _ _ e ∙ on-false (ltb k (r .r5)) _ _ (le-ltb k (r .r5) h)
 
--- ---- products fit
+-- ---- products and a rest fit
 
 pub lines-most : (a b : ℕ) → a < 128 → b < 32 → a * (b + 1) ≤ 4064
 lines-most a b h l = mul-le-mul {n₂ = 127} {m₂ = 32} (omega arith) (omega arith)
@@ -51,21 +48,27 @@ lines-most a b h l = mul-le-mul {n₂ = 127} {m₂ = 32} (omega arith) (omega ar
 pub growth-most : (a b : ℕ) → a < 256 → b ≤ 128 → a * b ≤ 32640
 growth-most a b h l = mul-le-mul {n₂ = 255} {m₂ = 128} (omega arith) l
 
+pub rest-fits : (m b : ℕ) → m % (b + 1) ≤ b
+rest-fits m b = let l = mod-lt m {m = b + 1} (omega arith) in omega arith
+
 module _ (r : Registers) (b4 : r .r4 < 128) (b5 : r .r5 < 32) (b9 : r .r9 < 32) (f : Frame) where
   -- ---- one line end
 
+  -- a scan line less of the row
   scan-step : (s u : ℕ) → u < 31 → frameMoved r (inRow r f s (suc u)) ≡ inRow r f s u
   unfolding frameMoved inRow
   scan-step s u h =
       let e : ((r .r9 + 32 - suc u) % 32 + 1) % 32 ≡ (r .r9 + 32 - u) % 32 = omega arith in
       rw (ne-eqb ((r .r9 + 32 - suc u) % 32) (r .r9) (omega arith)) (ap (λ (x : ℕ). withScan x (inRow r f s u)) e)
 
+  -- the row start grows by R1 once for each row
   grown : (s : ℕ) → s < rowsAfter r f
       → ((f .«row_start» + r .r1 * (rowsAfter r f - suc s)) % 16384 + r .r1) % 16384 ≡ (f .«row_start» + r .r1 * (rowsAfter r f - s)) % 16384
   grown s h =
       let e : rowsAfter r f - s ≡ suc (rowsAfter r f - suc s) = omega arith in
       rw (e, mul-suc) (omega arith)
 
+  -- a row less, and the next one has R9 scan lines after its first
   row-step : (s : ℕ) → s < rowsAfter r f → rowsAfter r f < 128 → frameMoved r (inRow r f (suc s) 0) ≡ inRow r f s (r .r9)
   unfolding frameMoved rowEnded inRow
   row-step s h l =
@@ -96,6 +99,7 @@ module _ (r : Registers) (b4 : r .r4 < 128) (b5 : r .r5 < 32) (b9 : r .r9 < 32) 
       rows-done (inAdjust r f 0)
       (rw (ne-eqb (r .r5) 0 (omega arith)) (sym (λ i. withRow (t i) (withRowStart (e i) (inAdjust r f 0)))))
 
+  -- in adjust the next line, or a new frame at R5
   adjust-step : (g : Frame) (a : ℕ) → ((a + 1) % 32 ≡ r .r5 → ⊥)
       → frameMoved r (withAdjust true a g) ≡ withAdjust true ((a + 1) % 32) g
   unfolding frameMoved adjustMoved
@@ -113,7 +117,7 @@ module _ (r : Registers) (b4 : r .r4 < 128) (b5 : r .r5 < 32) (b9 : r .r9 < 32) 
   unfolding inAdjust newFrame
   in-adjust-done a e = adjust-done (inAdjust r f a) a e
 
-  -- ---- the rows, x line ends before the last of theirs
+  -- ---- the rows, x line ends before the one that ends the last
 
   abbrev tall : ℕ
   tall = r .r9 + 1
@@ -147,6 +151,7 @@ module _ (r : Registers) (b4 : r .r4 < 128) (b5 : r .r5 < 32) (b9 : r .r9 < 32) 
       let e : suc x - s * tall ≡ suc (x - s * tall) = omega arith in
       rw (p, q, e) (scan-step s (x - s * tall) l)
 
+  -- one line end less before the one that ends the last row
   row-counts : (x : ℕ) → rowsAfter r f < 128 → x < 31 + rowsAfter r f * tall → frameMoved r (atRow r f (suc x)) ≡ atRow r f x
   row-counts x w h = go (decLe (rowsAfter r f) (x / tall)) (one-more x tall (omega arith))
     where
@@ -182,6 +187,7 @@ module _ (r : Registers) (b4 : r .r4 < 128) (b5 : r .r5 < 32) (b9 : r .r9 < 32) 
     abbrev scans : ℕ
     scans = (r .r9 + 32 - f .scan) % 32
 
+    -- a frame is where its own counters place it
     row-begins : f .adjusting ≡ false → inRow r f (rowsAfter r f) scans ≡ f
     unfolding inRow rowsAfter
     row-begins e =
@@ -320,10 +326,11 @@ module _ (r : Registers) (f : Frame) (h : Counters r f) where
       let e : (((f .field + 1) % 32 + q) % 32 + 1) % 32 ≡ ((f .field + 1) % 32 + suc q) % 32 = omega arith in
       ap (λ (x : ℕ). withField x (newFrame r f)) e
 
-  abbrev pub low : ℕ
+  -- the line ends before a new frame, from the first line of any
+  abbrev low : ℕ
   low = endsBefore r (frameOn r f 0)
 
-  pub low-is : (q : ℕ) → endsBefore r (frameOn r f q) ≡ low
+  low-is : (q : ℕ) → endsBefore r (frameOn r f q) ≡ low
   unfolding endsBefore rowsAfter frameOn newFrame
   low-is q = refl
 
@@ -350,8 +357,7 @@ module _ (r : Registers) (f : Frame) (h : Counters r f) where
       again q =
           sym (ap (placeOf r (frameOn r f (suc q))) (sym (low-is (suc q))) ∙ starts (frameOn r f (suc q)) (on-counters (suc q)))
 
-  -- n line ends of the counters, as the code comes to them: a and b are the line ends before a new
-  -- frame, in this one and in x, the next
+  -- n line ends of the counters, as the code comes to them: a and b are the line ends before a new frame, in this one and in x, the next
   pub moved-short : (n a : ℕ) → a ≡ endsBefore r f → n ≤ a → placeOf r f (a - n) ≡ after n (frameMoved r) f
   moved-short n a e l = rw e (sym (after-short turns n (omega arith)))
 
