@@ -195,16 +195,7 @@ module _ (r : Registers) (b4 : r .r4 < 128) (b5 : r .r5 < 32) (b9 : r .r9 < 32) 
         let a : (r .r4 + 128 - w) % 128 ≡ f .row = omega arith in
         let b : (r .r9 + 32 - scans) % 32 ≡ f .scan = omega arith in
         let z : (f .«row_start» + r .r1 * (w - w)) % 16384 ≡ f .«row_start» = rw (sub-self, mul-zero) (omega arith) in
-        λ i. record {
-          row = a i;
-          scan = b i;
-          adjusting = sym e i;
-          adjust = f .adjust;
-          «row_start» = z i;
-          «frame_start» = f .«frame_start»;
-          vsync = f .vsync;
-          field = f .field;
-        }
+        λ i. withRow (a i) (withScan (b i) (withAdjust (sym e i) (f .adjust) (withRowStart (z i) f)))
 
     rows-begin : f .adjusting ≡ false → atRow r f (scans + rowsAfter r f * tall) ≡ f
     rows-begin e =

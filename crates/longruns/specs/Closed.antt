@@ -4,7 +4,7 @@ use Prim.Native.Nat.{ℕ, _+_, _-_, _*_, _/_, _%_, _<_, _≤_}
 use lib.Dec.{ltb}
 use Rattle.clocks.specs.Clocks.{if_then_else_, after}
 use Rattle.raster.specs.Record.{startOf}
-use Rattle.raster.specs.Clock.{withAdjust, frameMoved}
+use Rattle.raster.specs.Clock.{withRow, withScan, withAdjust, withRowStart, frameMoved}
 use Rattle.raster.specs.declared.Registers.{Registers}
 use Rattle.raster.specs.declared.Frame.{Frame}
 use Rattle.raster.specs.declared.Raster.{Raster}
@@ -35,30 +35,15 @@ endsBefore r f =
 -- the frame with s rows still to come, and u scan lines of its row
 unfoldable pub inRow : Registers → Frame → ℕ → ℕ → Frame
 inRow r f s u =
-    record {
-      row = (r .r4 + 128 - s) % 128;
-      scan = (r .r9 + 32 - u) % 32;
-      adjusting = false;
-      adjust = f .adjust;
-      «row_start» = (f .«row_start» + r .r1 * (rowsAfter r f - s)) % 16384;
-      «frame_start» = f .«frame_start»;
-      vsync = f .vsync;
-      field = f .field;
-    }
+    withRow ((r .r4 + 128 - s) % 128)
+    (withScan ((r .r9 + 32 - u) % 32)
+    (withAdjust false (f .adjust) (withRowStart ((f .«row_start» + r .r1 * (rowsAfter r f - s)) % 16384) f)))
 
 -- the frame at adjust line a, all its rows done
 unfoldable pub inAdjust : Registers → Frame → ℕ → Frame
 inAdjust r f a =
-    record {
-      row = r .r4;
-      scan = 0;
-      adjusting = true;
-      adjust = a;
-      «row_start» = (f .«row_start» + r .r1 * (rowsAfter r f + 1)) % 16384;
-      «frame_start» = f .«frame_start»;
-      vsync = f .vsync;
-      field = f .field;
-    }
+    withRow (r .r4)
+    (withScan 0 (withAdjust true a (withRowStart ((f .«row_start» + r .r1 * (rowsAfter r f + 1)) % 16384) f)))
 
 -- the rows still to come, x line ends before the one that ends the last row; a first row that is longer than the others, being entered above
 -- R9, does not count for more than one
@@ -79,6 +64,7 @@ placeOf r f k =
     if ltb k (r .r5) then inAdjust r f (r .r5 - 1 - k) else
     atRow r f (k - r .r5)
 
+-- a frame with another field number
 abbrev pub withField : ℕ → Frame → Frame
 withField x f =
     record {
