@@ -1,0 +1,5 @@
+pub mod Top
+pub mod Masks
+pub mod Holding
+pub mod Sound
+pub mod Demands
