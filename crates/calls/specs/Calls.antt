@@ -2,6 +2,8 @@
 use Prim.Native.Nat.{ℕ, _<_}
 use Rattle.calls.specs.declared.Call22.{Call22}
 use Rattle.calls.specs.declared.Call22.the-variants as Via
+use Rattle.calls.specs.declared.Call25.{Call25}
+use Rattle.calls.specs.declared.Call25.the-variants as Tpi
 use Rattle.calls.specs.declared.Call32.{Call32}
 use Rattle.calls.specs.declared.Call32.the-variants as Riot
 use Rattle.calls.specs.declared.Call45.{Call45}
@@ -20,6 +22,13 @@ Typed22 (Via.Read r) = Byte r
 Typed22 (Via.Pins pa pb control) = Byte pa × Byte pb × Byte control
 Typed22 (Via.Run n) = Clocks n
 Typed22 Via.Forecast = Unit {0}
+
+abbrev pub Typed25 : Call25 → Type 0
+Typed25 Tpi.Reset = Unit {0}
+Typed25 (Tpi.Write r x) = Byte r × Byte x
+Typed25 (Tpi.Read r) = Byte r
+Typed25 (Tpi.Pins pa pb pc) = Byte pa × Byte pb × Byte pc
+Typed25 (Tpi.Run n) = Clocks n
 
 abbrev pub Typed32 : Call32 → Type 0
 Typed32 Riot.Reset = Unit {0}

@@ -10,6 +10,15 @@ pub enum Call22 {
     Forecast,
 }
 
+// A call of the 6525.
+pub enum Call25 {
+    Reset,
+    Write(u8, u8),
+    Read(u8),
+    Pins(u8, u8, u8),
+    Run(u32),
+}
+
 // A call of the 6532.
 pub enum Call32 {
     Reset,

@@ -1,0 +1,68 @@
+-- The eight registers: what is refused, what a read gives and leaves, and what a write leaves.
+use mathlib.Core.Bool.{not, _&&_}
+use Prim.Native.Nat.{ℕ}
+use lib.Dec.{eqb, ltb}
+use Rattle.clocks.specs.Clocks.{if_then_else_}
+use Rattle.inputs.specs.Inputs.{interrupts, taken, ended, kept}
+use Rattle.inputs.specs.declared.Inputs.{Inputs}
+use Rattle.ports.specs.Ports.{linesOf}
+use Rattle.tpi6525.specs.Record.{withInputs}
+use Rattle.tpi6525.specs.Signals.{airOf, linesC}
+use Rattle.tpi6525.specs.declared.Tpi.{Tpi}
+
+-- a register above 7 is refused with 3
+abbrev pub registerAsks : ℕ → ℕ
+registerAsks r = if ltb 7 r then 3 else 0
+
+-- ---- reads
+
+-- the ports are read off their lines, directions and CR as they were written, and register 7 shows the active interrupts
+unfoldable pub dataOf : ℕ → Tpi → ℕ
+dataOf r v =
+    if eqb r 0 then linesOf (v .a) else
+    if eqb r 1 then linesOf (v .b) else
+    if eqb r 2 then linesC v else
+    if eqb r 3 then v .a .ddr else
+    if eqb r 4 then v .b .ddr else
+    if eqb r 5 then v .c .ddr else
+    if eqb r 6 then v .cr else
+    airOf v
+
+-- what register 7 shows is taken; no other read has an effect
+unfoldable pub readOf : ℕ → Tpi → Tpi
+readOf r v = if eqb r 7 then withInputs (taken (airOf v) (v .inputs)) v else v
+
+-- ---- writes
+
+-- a write of port C is one to the latch in interrupt mode; a write of register 7 ends service
+unfoldable pub inputsAfter : ℕ → ℕ → Tpi → Inputs
+inputsAfter r x v =
+    if eqb r 2 then kept (v .cr) x (v .inputs) else
+    if eqb r 7 then ended (v .cr) (v .inputs) else
+    v .inputs
+
+-- each other register keeps the byte, port C's output byte out of interrupt mode only; a write of CR or of port C's direction byte leaves the inputs
+unfoldable pub storedOf : ℕ → ℕ → Tpi → Tpi
+storedOf r x v =
+    record {
+      a =
+          record {
+            output = if eqb r 0 then x else v .a .output;
+            outside = v .a .outside;
+            ddr = if eqb r 3 then x else v .a .ddr;
+          };
+      b =
+          record {
+            output = if eqb r 1 then x else v .b .output;
+            outside = v .b .outside;
+            ddr = if eqb r 4 then x else v .b .ddr;
+          };
+      c =
+          record {
+            output = if eqb r 2 && not (interrupts (v .cr)) then x else v .c .output;
+            outside = v .c .outside;
+            ddr = if eqb r 5 then x else v .c .ddr;
+          };
+      cr = if eqb r 6 then x else v .cr;
+      inputs = inputsAfter r x v;
+    }
