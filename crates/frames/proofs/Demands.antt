@@ -1,75 +1,72 @@
 -- The statements of specs/Demands.antt, proved.
 use mathlib.Core.Path.{_≡_, refl, ap, ap₂, _∙_}
-use mathlib.Core.Bool.{Bool, true, false}
-use mathlib.Core.List.{List, [], _∷_}
+use mathlib.Core.Bool.{Bool, true, false, _&&_}
+use mathlib.Core.List.{List, [], _∷_, _++_}
 use Prim.Native.Nat.{ℕ, zero, suc, _+_, _*_, _/_, _%_, _<_, _≤_}
 use native.Mathlib.Omega.{arith}
 use lib.Dec.{eqb, ltb, leb}
 use lib.ListN.{length}
-use borrow.Author.Tests.{ltb-true, le-leb, leb-true}
+use borrow.Author.Tests.{le-leb, leb-true}
 use Rattle.clocks.specs.Clocks.{if_then_else_}
 use Rattle.clocks.proofs.Tests.{picked, both}
 use Rattle.calls.specs.declared.Call22.the-variants as Via
+use Rattle.calls.specs.declared.Call25.the-variants as Tpi
 use Rattle.calls.specs.declared.Call32.the-variants as Riot
 use Rattle.calls.specs.declared.Call45.the-variants as Crtc
 use Rattle.replies.specs.Hex.{digitOf, hexOf}
 use Rattle.frames.specs.Hex.{valueOf, pairOf}
-use Rattle.frames.specs.Frames.{bytesOf, areBytes, byte, clocks, with, of22, of32, of45, ofBytes, checked, frameOf}
+use Rattle.frames.specs.Frames.{bytesOf, areBytes, byte, clocks, Row, rows22, rows25, rows32, rows45, table, found, called, ofBytes, checked, frameOf}
 use Rattle.frames.specs.Demands.{Typed, count, lineOf}
 use Rattle.frames.specs.Demands as Demands
-use Rattle.frames.specs.declared.Frame.{Frame}
-use Rattle.frames.specs.declared.Frame.the-variants.{Unknown, To22, To32, To45}
-use Rattle.frames.proofs.Lines.{by-less, value-by, Bytes, no-more, a-byte, are-bytes}
+use Rattle.frames.specs.declared.Frame.the-variants.{Unknown, To22, To25, To32, To45}
+use Rattle.frames.proofs.Lines.{by-less, value-by, small, Bytes, no-more, a-byte, are-bytes}
 
 -- ---- the operands of a line's call
-
--- each of some bytes is below 256, and so is the 0 past their end
-small : (s : List ℕ) → areBytes s ≡ true → (k : ℕ) → byte k s < 256
-small [] e k = omega arith
-small (b ∷ s) e zero = ltb-true b 256 (both (ltb b 256) (areBytes s) e .0)
-small (b ∷ s) e (suc k) = small s (both (ltb b 256) (areBytes s) e .1) k
 
 clocks-small : (s : List ℕ) → ((k : ℕ) → byte k s < 256) → clocks s < 4294967296
 clocks-small s b = omega (arith, b 0, b 1, b 2, b 3)
 
--- what holds of a row's frame, of no frame, and of the rows below it holds of the table
-row : (P : Frame → Type 0) (op k n : ℕ) (s : List ℕ) {f y : Frame} → P Unknown → P f → P y → P (if eqb op k then with n s f else y)
-row P op k n s u p q = picked P (eqb op k) (picked P (eqb (length s) n) p u) q
+-- a row whose frame is typed, whatever bytes its operands are
+abbrev RowTyped : Row → Type 0
+RowTyped r = (s : List ℕ) → ((k : ℕ) → byte k s < 256) → Typed (r .frame s)
 
-module _ (op : ℕ) (s : List ℕ) (b : (k : ℕ) → byte k s < 256) where
-  typed22 : Typed (of22 op s)
-  typed22 =
-      row Typed op 1 0 s tt tt
-      (row Typed op 2 2 s tt (b 0, b 1)
-      (row Typed op 3 1 s tt (b 0)
-      (row Typed op 4 3 s tt (b 0, b 1, b 2)
-      (row Typed op 5 4 s tt (clocks-small s b)
-      (row Typed op 6 0 s tt tt tt)))))
+abbrev AllTyped : List Row → Type 0
+AllTyped [] = Unit {0}
+AllTyped (r ∷ t) = RowTyped r × AllTyped t
 
-  typed32 : Typed (of32 op s)
-  typed32 =
-      row Typed op 1 0 s tt tt
-      (row Typed op 2 2 s tt (b 0, b 1)
-      (row Typed op 3 1 s tt (b 0)
-      (row Typed op 4 2 s tt (b 0, b 1)
-      (row Typed op 5 4 s tt (clocks-small s b)
-      (row Typed op 6 0 s tt tt tt)))))
+all-append : (x y : List Row) → AllTyped x → AllTyped y → AllTyped (x ++ y)
+all-append [] y p q = q
+all-append (r ∷ x) y p q = (p .0, all-append x y (p .1) q)
 
-  typed45 : Typed (of45 op s)
-  typed45 =
-      row Typed op 1 0 s tt tt
-      (row Typed op 2 2 s tt (b 0, b 1)
-      (row Typed op 3 1 s tt (b 0)
-      (row Typed op 4 1 s tt (b 0)
-      (row Typed op 5 4 s tt (clocks-small s b)
-      (row Typed op 7 4 s tt (clocks-small s b) tt)))))
+typed22 : AllTyped rows22
+typed22 =
+    (λ s b. tt, (λ s b. (b 0, b 1), (λ s b. b 0, (λ s b. (b 0, b 1, b 2), (λ s b. clocks-small s b, (λ s b. tt, tt))))))
+
+typed25 : AllTyped rows25
+typed25 = (λ s b. tt, (λ s b. (b 0, b 1), (λ s b. b 0, (λ s b. (b 0, b 1, b 2), (λ s b. clocks-small s b, tt)))))
+
+typed32 : AllTyped rows32
+typed32 = (λ s b. tt, (λ s b. (b 0, b 1), (λ s b. b 0, (λ s b. (b 0, b 1), (λ s b. clocks-small s b, (λ s b. tt, tt))))))
+
+typed45 : AllTyped rows45
+typed45 =
+    (λ s b. tt, (λ s b. (b 0, b 1), (λ s b. b 0, (λ s b. b 0, (λ s b. clocks-small s b, (λ s b. clocks-small s b, tt))))))
+
+found-typed : (t : List Row) (w : ℕ) (s : List ℕ) → ((k : ℕ) → byte k s < 256) → AllTyped t → Typed (found t w s)
+found-typed [] w s b e = tt
+found-typed (r ∷ t) w s b e =
+    picked Typed (eqb w (r .word) && eqb (length s) (r .operands)) (e .0 s b) (found-typed t w s b (e .1))
+
+called-typed : (w : ℕ) (s : List ℕ) → ((k : ℕ) → byte k s < 256) → Typed (called w s)
+unfolding called
+called-typed w s b =
+    found-typed table w s b (all-append rows22 (rows25 ++ (rows32 ++ rows45)) typed22
+    (all-append rows25 (rows32 ++ rows45) typed25 (all-append rows32 rows45 typed32 typed45)))
 
 typed-bytes : (s : List ℕ) → areBytes s ≡ true → Typed (ofBytes s)
 typed-bytes [] e = tt
 typed-bytes (chip ∷ []) e = tt
-typed-bytes (chip ∷ op ∷ s) e =
-    let b : (k : ℕ) → byte k s < 256 = λ k. small (chip ∷ op ∷ s) e (suc (suc k)) in
-    picked Typed (eqb chip 0x22) (typed22 op s b) (picked Typed (eqb chip 0x32) (typed32 op s b) (picked Typed (eqb chip 0x45) (typed45 op s b) tt))
+typed-bytes (chip ∷ op ∷ s) e = called-typed (chip * 256 + op) s (λ k. small (chip ∷ op ∷ s) e (suc (suc k)))
 
 typed-checked : (s : List ℕ) → Typed (checked s)
 unfolding checked
@@ -132,30 +129,36 @@ below : {b : ℕ} {s : List ℕ} → b < 256 → Bytes s → Bytes (b ∷ s)
 below {b} h r = let k : b ≤ 255 = omega arith in a-byte k r
 
 -- a chip's byte, an operation's, and operands
-asked :
+asked-for :
     (chip op : ℕ) {s : List ℕ} → Bytes s → areBytes (chip ∷ op ∷ []) ≡ true → leb (length (chip ∷ op ∷ s)) 16 ≡ true
     → frameOf (lineOf (chip ∷ op ∷ s)) ≡ ofBytes (chip ∷ op ∷ s)
-asked chip op {s} r e h =
+asked-for chip op {s} r e h =
     let a = both (ltb chip 256) (areBytes (op ∷ [])) e in
     said (chip ∷ op ∷ s) (rw (a .0, both (ltb op 256) true (a .1) .0, are-bytes r)) h
 
 pub frames-said : Demands.Frames-said
+unfolding called
 frames-said Unknown t = said [] refl refl
-frames-said (To22 Via.Reset) t = asked 0x22 0x01 no-more refl refl
-frames-said (To22 (Via.Write r x)) t = asked 0x22 0x02 (below (t .0) (below (t .1) no-more)) refl refl
-frames-said (To22 (Via.Read r)) t = asked 0x22 0x03 (below t no-more) refl refl
-frames-said (To22 (Via.Pins pa pb control)) t = asked 0x22 0x04 (below (t .0) (below (t .1) (below (t .2) no-more))) refl refl
-frames-said (To22 (Via.Run n)) t = asked 0x22 0x05 (count-bytes n) refl refl ∙ ap (λ (k : ℕ). To22 (Via.Run k)) (count-back n t)
-frames-said (To22 Via.Forecast) t = asked 0x22 0x06 no-more refl refl
-frames-said (To32 Riot.Reset) t = asked 0x32 0x01 no-more refl refl
-frames-said (To32 (Riot.Write a x)) t = asked 0x32 0x02 (below (t .0) (below (t .1) no-more)) refl refl
-frames-said (To32 (Riot.Read a)) t = asked 0x32 0x03 (below t no-more) refl refl
-frames-said (To32 (Riot.Pins pa pb)) t = asked 0x32 0x04 (below (t .0) (below (t .1) no-more)) refl refl
-frames-said (To32 (Riot.Run n)) t = asked 0x32 0x05 (count-bytes n) refl refl ∙ ap (λ (k : ℕ). To32 (Riot.Run k)) (count-back n t)
-frames-said (To32 Riot.Forecast) t = asked 0x32 0x06 no-more refl refl
-frames-said (To45 Crtc.Reset) t = asked 0x45 0x01 no-more refl refl
-frames-said (To45 (Crtc.Write a x)) t = asked 0x45 0x02 (below (t .0) (below (t .1) no-more)) refl refl
-frames-said (To45 (Crtc.Read a)) t = asked 0x45 0x03 (below t no-more) refl refl
-frames-said (To45 (Crtc.Pins pen)) t = asked 0x45 0x04 (below t no-more) refl refl
-frames-said (To45 (Crtc.Run n false)) t = asked 0x45 0x05 (count-bytes n) refl refl ∙ ap (λ (k : ℕ). To45 (Crtc.Run k false)) (count-back n t)
-frames-said (To45 (Crtc.Run n true)) t = asked 0x45 0x07 (count-bytes n) refl refl ∙ ap (λ (k : ℕ). To45 (Crtc.Run k true)) (count-back n t)
+frames-said (To22 Via.Reset) t = asked-for 0x22 0x01 no-more refl refl
+frames-said (To22 (Via.Write r x)) t = asked-for 0x22 0x02 (below (t .0) (below (t .1) no-more)) refl refl
+frames-said (To22 (Via.Read r)) t = asked-for 0x22 0x03 (below t no-more) refl refl
+frames-said (To22 (Via.Pins pa pb control)) t = asked-for 0x22 0x04 (below (t .0) (below (t .1) (below (t .2) no-more))) refl refl
+frames-said (To22 (Via.Run n)) t = asked-for 0x22 0x05 (count-bytes n) refl refl ∙ ap (λ (k : ℕ). To22 (Via.Run k)) (count-back n t)
+frames-said (To22 Via.Forecast) t = asked-for 0x22 0x06 no-more refl refl
+frames-said (To25 Tpi.Reset) t = asked-for 0x25 0x01 no-more refl refl
+frames-said (To25 (Tpi.Write r x)) t = asked-for 0x25 0x02 (below (t .0) (below (t .1) no-more)) refl refl
+frames-said (To25 (Tpi.Read r)) t = asked-for 0x25 0x03 (below t no-more) refl refl
+frames-said (To25 (Tpi.Pins pa pb pc)) t = asked-for 0x25 0x04 (below (t .0) (below (t .1) (below (t .2) no-more))) refl refl
+frames-said (To25 (Tpi.Run n)) t = asked-for 0x25 0x05 (count-bytes n) refl refl ∙ ap (λ (k : ℕ). To25 (Tpi.Run k)) (count-back n t)
+frames-said (To32 Riot.Reset) t = asked-for 0x32 0x01 no-more refl refl
+frames-said (To32 (Riot.Write a x)) t = asked-for 0x32 0x02 (below (t .0) (below (t .1) no-more)) refl refl
+frames-said (To32 (Riot.Read a)) t = asked-for 0x32 0x03 (below t no-more) refl refl
+frames-said (To32 (Riot.Pins pa pb)) t = asked-for 0x32 0x04 (below (t .0) (below (t .1) no-more)) refl refl
+frames-said (To32 (Riot.Run n)) t = asked-for 0x32 0x05 (count-bytes n) refl refl ∙ ap (λ (k : ℕ). To32 (Riot.Run k)) (count-back n t)
+frames-said (To32 Riot.Forecast) t = asked-for 0x32 0x06 no-more refl refl
+frames-said (To45 Crtc.Reset) t = asked-for 0x45 0x01 no-more refl refl
+frames-said (To45 (Crtc.Write a x)) t = asked-for 0x45 0x02 (below (t .0) (below (t .1) no-more)) refl refl
+frames-said (To45 (Crtc.Read a)) t = asked-for 0x45 0x03 (below t no-more) refl refl
+frames-said (To45 (Crtc.Pins pen)) t = asked-for 0x45 0x04 (below t no-more) refl refl
+frames-said (To45 (Crtc.Run n false)) t = asked-for 0x45 0x05 (count-bytes n) refl refl ∙ ap (λ (k : ℕ). To45 (Crtc.Run k false)) (count-back n t)
+frames-said (To45 (Crtc.Run n true)) t = asked-for 0x45 0x07 (count-bytes n) refl refl ∙ ap (λ (k : ℕ). To45 (Crtc.Run k true)) (count-back n t)

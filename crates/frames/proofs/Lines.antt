@@ -1,21 +1,20 @@
 -- The frame of a line, by its length and its first two bytes.
-use mathlib.Core.Path.{_≡_, refl, sym, ap, ap₂, _∙_}
-use mathlib.Core.Bool.{Bool, true, false, _&&_, false≢true}
+use mathlib.Core.Path.{_≡_, refl, sym, ap, _∙_}
+use mathlib.Core.Bool.{Bool, true, false, not, _&&_, _||_, and-true, false≢true}
 use mathlib.Core.List.{List, [], _∷_}
 use mathlib.Core.Logic.{_⊎_, inl, inr}
-use Prim.Native.Nat.{ℕ, zero, suc, suc-le-suc, _+_, _-_, _*_, _/_, _%_, _<_, _≤_}
+use Prim.Native.Nat.{ℕ, zero, suc, suc-le-suc, _+_, _-_, _*_, _%_, _<_, _≤_}
 use native.Mathlib.Decide.{decLt}
 use native.Mathlib.Omega.{arith}
 use native.Mathlib.Numerals.{add-one, add-two}
-use borrow.Author.Tests.{lt-ltb, le-ltb, le-leb, lt-leb, ne-eqb, eqb-true}
-use lib.Dec.{ltb, eqb, lit≤}
+use borrow.Author.Tests.{lt-ltb, ltb-true, le-ltb, le-leb, lt-leb, leb-true, ne-eqb}
+use lib.Dec.{ltb, leb, eqb}
 use lib.ListN.{length, drop, drop-of-length-le}
 use lib.Seq.{drop-cons}
 use Rattle.clocks.specs.Clocks.{if_then_else_}
 use Rattle.clocks.proofs.Tests.{both}
 use Rattle.frames.specs.Hex.{valueOf, pairOf, pairAt}
-use Rattle.frames.specs.Frames.{bytesOf, areBytes, clocks, of22, of32, of45, ofBytes, checked, frameOf}
-use Rattle.frames.specs.declared.Frame.{Frame}
+use Rattle.frames.specs.Frames.{bytesOf, areBytes, byte, Row, table, found, called, asked, ofBytes, checked, frameOf}
 use Rattle.frames.specs.declared.Frame.the-variants.{Unknown}
 
 -- ---- digits
@@ -68,22 +67,29 @@ pub pair-byte : (h l : ℕ) → pairOf h l < 65536 → pairOf h l < 256
 unfolding pairOf
 pair-byte h l = two-digits (valueOf h) (valueOf l) (value-either h) (value-either l)
 
+-- and another is far too large for one
+pub pair-wide : (h l : ℕ) → (pairOf h l < 256 → ⊥) → 65536 ≤ pairOf h l
+pair-wide h l n = go (decLt (pairOf h l) 65536)
+  where
+    go : Dec (pairOf h l < 65536) → 65536 ≤ pairOf h l
+    go (yes p) = absurd (n (pair-byte h l p))
+    go (no p) = omega arith
+
 -- ---- bytes
 
 pub either-same : {A : Type 0} (t : Bool) (x : A) → (if t then x else x) ≡ x
 either-same true x = refl
 either-same false x = refl
 
-pub if-equal : {A : Type 0} (a b : ℕ) {x y z : A} → (a ≡ b → x ≡ z) → y ≡ z → (if eqb a b then x else y) ≡ z
-if-equal a b {x} {y} {z} p q = go (eqb a b) refl
-  where
-    go : (t : Bool) → eqb a b ≡ t → (if t then x else y) ≡ z
-    go true e = p (eqb-true a b e)
-    go false e = q
-
 pub and-no : (t : Bool) → (t && false) ≡ false
 and-no true = refl
 and-no false = refl
+
+-- each of some bytes is below 256, and so is the 0 past their end
+pub small : (s : List ℕ) → areBytes s ≡ true → (k : ℕ) → byte k s < 256
+small [] e k = omega arith
+small (b ∷ s) e zero = ltb-true b 256 (both (ltb b 256) (areBytes s) e .0)
+small (b ∷ s) e (suc k) = small s (both (ltb b 256) (areBytes s) e .1) k
 
 -- operands that are bytes
 pub data Bytes : List ℕ → Type 0 where
@@ -107,31 +113,89 @@ pairs-are l k (suc m) h =
     let e : bytesOf (drop (k + 2) l) ≡ pairsOf l (k + 2) m = pairs-are l (k + 2) m (omega arith) in
     rw (← e, add-one, add-two, drop-cons l k 0 h₁, drop-cons l (suc k) 0 h₂)
 
--- two bytes that were read as one number w
-module _ (l : List ℕ) (k w : ℕ) (e : w ≡ pairAt l k * 256 + pairAt l (k + 2)) where
-  low : w ≤ 65535 → pairAt l (k + 2) < 256
-  low h = pair-byte _ _ (omega arith)
+-- ---- the table
 
-  pub word-bytes : {s : List ℕ} → w ≤ 65535 → Bytes s → Bytes (pairAt l k ∷ pairAt l (k + 2) ∷ s)
-  word-bytes h r =
-      let q = low h in
-      let a : pairAt l k ≤ 255 = omega arith in
-      let b : pairAt l (k + 2) ≤ 255 = omega arith in
-      a-byte a (a-byte b r)
+-- the words of the rows with so many operands
+abbrev pub words : ℕ → List Row → List ℕ
+words n [] = []
+words n (r ∷ t) = if eqb n (r .operands) then r .word ∷ words n t else words n t
 
-  pub word-parts : {A : Type 0} (F : ℕ → ℕ → A) → w ≤ 65535 → F (w / 256) (w % 256) ≡ F (pairAt l k) (pairAt l (k + 2))
-  word-parts F h = let q = low h in ap₂ F (omega arith) (omega arith)
+-- w is none of some words
+abbrev pub Misses : List ℕ → ℕ → Type 0
+Misses [] w = Unit {0}
+Misses (x ∷ xs) w = (w ≡ x → ⊥) × Misses xs w
 
-  pub no-word : (m : ℕ) → 65535 < w → areBytes (pairsOf l k (suc (suc m))) ≡ false
-  no-word m h = go (decLt (pairAt l k) 256)
-    where
-      go : Dec (pairAt l k < 256) → areBytes (pairsOf l k (suc (suc m))) ≡ false
-      go (yes p) = simp (le-ltb (pairAt l (k + 2)) 256 (omega arith), and-no)
-      go (no p) = rw (le-ltb (pairAt l k) 256 (omega arith))
+found-none : (t : List Row) (w : ℕ) (s : List ℕ) → Misses (words (length s) t) w → found t w s ≡ Unknown
+found-none [] w s m = refl
+found-none (r ∷ t) w s m = go (λ q. found-none t w s q) (eqb (length s) (r .operands)) refl m
+  where
+    go :
+        (Misses (words (length s) t) w → found t w s ≡ Unknown)
+        → (b : Bool) → eqb (length s) (r .operands) ≡ b → Misses (if b then r .word ∷ words (length s) t else words (length s) t) w
+        → found (r ∷ t) w s ≡ Unknown
+    go others true e q = rw (ne-eqb w (r .word) (q .0)) (others (q .1))
+    go others false e q = rw (e, and-no (eqb w (r .word))) (others q)
 
--- four bytes that were read as two such numbers
-pub count-is : (l : List ℕ) (v w : ℕ) → v ≡ pairAt l 4 * 256 + pairAt l 6 → w ≡ pairAt l 8 * 256 + pairAt l 10 → v * 65536 + w ≡ clocks (pairsOf l 4 4)
-count-is l v w e f = omega arith
+-- no word is above 65535, and no operation has more than four operands
+bounded : List Row → Bool
+bounded [] = true
+bounded (r ∷ t) = leb (r .word) 65535 && leb (r .operands) 4 && bounded t
+
+found-beyond : (t : List Row) (w : ℕ) (s : List ℕ) → bounded t ≡ true → (65535 < w) ⊎ (4 < length s) → found t w s ≡ Unknown
+unfolding bounded
+found-beyond [] w s b h = refl
+found-beyond (r ∷ t) w s b h =
+    let c = both (leb (r .word) 65535 && leb (r .operands) 4) (bounded t) b in
+    let d = both (leb (r .word) 65535) (leb (r .operands) 4) (c .0) in
+    rw (row-beyond (leb-true (r .word) 65535 (d .0)) (leb-true (r .operands) 4 (d .1)) h) (found-beyond t w s (c .1) h)
+  where
+    row-beyond : r .word ≤ 65535 → r .operands ≤ 4 → (65535 < w) ⊎ (4 < length s) → (eqb w (r .word) && eqb (length s) (r .operands)) ≡ false
+    row-beyond p q (inl h) = rw (ne-eqb w (r .word) (λ e. omega (arith, e)))
+    row-beyond p q (inr h) = rw (ne-eqb (length s) (r .operands) (λ e. omega (arith, e))) (and-no (eqb w (r .word)))
+
+above : (w : ℕ) (s : List ℕ) → 65535 < w → called w s ≡ Unknown
+unfolding called bounded
+above w s h = found-beyond table w s refl (inl h)
+
+longer : (w : ℕ) (s : List ℕ) → 4 < length s → called w s ≡ Unknown
+unfolding called bounded
+longer w s h = found-beyond table w s refl (inr h)
+
+-- whether one of some operands is too large, after a test of those before them
+abbrev pub wide : Bool → List ℕ → Bool
+wide t [] = t
+wide t (a ∷ s) = wide (t || ltb 255 a) s
+
+fits : (a : ℕ) → not (ltb 255 a) ≡ ltb a 256
+fits a = go (decLt a 256)
+  where
+    go : Dec (a < 256) → not (ltb 255 a) ≡ ltb a 256
+    go (yes h) = rw (lt-ltb a 256 h, le-ltb 255 a (omega arith))
+    go (no h) = rw (le-ltb a 256 (omega arith), lt-ltb 255 a (omega arith))
+
+neither : (t w b : Bool) → (not (t || w) && b) ≡ (not t && (not w && b))
+neither true w b = refl
+neither false w b = refl
+
+wide-from : (t : Bool) (s : List ℕ) → not (wide t s) ≡ (not t && areBytes s)
+wide-from t [] = sym (and-true (not t))
+wide-from t (a ∷ s) = wide-from (t || ltb 255 a) s ∙ neither t (ltb 255 a) (areBytes s) ∙ rw (fits a)
+
+pub wide-bytes : (a : ℕ) (s : List ℕ) (t : Bool) → wide (ltb 255 a) s ≡ t → areBytes (a ∷ s) ≡ not t
+wide-bytes a s t e = ap (λ (b : Bool). b && areBytes s) (sym (fits a)) ∙ sym (wide-from (ltb 255 a) s) ∙ ap not e
+
+-- operands of which one is no byte, and a word that no row with so many operands has
+pub no-bytes : (w : ℕ) (s : List ℕ) → areBytes s ≡ false → Unknown ≡ asked w s
+unfolding asked
+no-bytes w s e = rw e
+
+pub all-bytes : (w : ℕ) (s : List ℕ) → areBytes s ≡ true → called w s ≡ asked w s
+unfolding asked
+all-bytes w s e = rw e
+
+pub no-row : (w : ℕ) (s : List ℕ) → Misses (words (length s) table) w → Unknown ≡ asked w s
+unfolding asked called
+no-row w s m = rw (found-none table w s m, either-same)
 
 -- ---- a line of a chip's byte, an operation's, and m operands
 
@@ -140,65 +204,25 @@ module _ (l : List ℕ) (m : ℕ) (len : length l ≡ 4 + 2 * m) (u : m ≤ 14) 
   unfolding frameOf
   frame-is = rw (le-leb (length l) 32 (omega arith), pairs-are l 0 (suc (suc m)) (omega arith))
 
-  pub no-bytes : areBytes (pairsOf l 4 m) ≡ false → Unknown ≡ frameOf l
-  unfolding checked
-  no-bytes e = rw (← frame-is) (simp (e, and-no))
+  -- a line whose first four digits were read as the word w
+  pub asked-is : (w : ℕ) → w ≡ pairAt l 0 * 256 + pairAt l 2 → asked w (pairsOf l 4 m) ≡ frameOf l
+  unfolding checked asked
+  asked-is w e = go (decLt (pairAt l 0) 256) (decLt (pairAt l 2) 256) ∙ frame-is
+    where
+      s : List ℕ
+      s = pairsOf l 4 m
 
-  module _ (w : ℕ) (e : w ≡ pairAt l 0 * 256 + pairAt l 2) where
-    -- the frame of the chip and the operation that the first four digits say
-    pub found :
-        (chip op : ℕ) → (chip < 256) × (op < 256) → w ≡ chip * 256 + op → Bytes (pairsOf l 4 m) → ofBytes (chip ∷ op ∷ pairsOf l 4 m) ≡ frameOf l
-    unfolding checked
-    found chip op (p, q) h r =
-        let b : pairAt l 2 < 256 = pair-byte _ _ (omega arith) in
-        let f : pairAt l 0 ≡ chip = omega arith in
-        let g : pairAt l 2 ≡ op = omega arith in
-        rw (← frame-is, f, g, lt-ltb chip 256 p, lt-ltb op 256 q, are-bytes r)
+      unknown : 65535 < w → (if areBytes s then called w s else Unknown) ≡ Unknown
+      unknown h = rw (above w s h) (either-same (areBytes s) Unknown)
 
-  pub not-found : ofBytes (pairAt l 0 ∷ pairAt l 2 ∷ pairsOf l 4 m) ≡ Unknown → Unknown ≡ frameOf l
-  unfolding checked
-  not-found n = rw (← frame-is, n, either-same)
-
--- four operands that were read as the numbers v and w, after the first word x: a frame F with so many clocks
-module _ (l : List ℕ) (len : length l ≡ 12) (v w x : ℕ) (e : v ≡ pairAt l 4 * 256 + pairAt l 6) (f : w ≡ pairAt l 8 * 256 + pairAt l 10)
-    (g : x ≡ pairAt l 0 * 256 + pairAt l 2) where
-  pub run-found :
-      v ≤ 65535 → w ≤ 65535 → (chip op : ℕ) → (chip < 256) × (op < 256) → x ≡ chip * 256 + op → (F : ℕ → Frame)
-      → ofBytes (chip ∷ op ∷ pairsOf l 4 4) ≡ F (clocks (pairsOf l 4 4)) → F (v * 65536 + w) ≡ frameOf l
-  run-found a b chip op h k F q =
-      ap F (count-is l v w e f) ∙ sym q ∙ found l 4 len (lit≤ tt) x g chip op h k (word-bytes l 4 v e a (word-bytes l 8 w f b no-more))
-
--- ---- first words that are no operation with so many operands
-
-module _ (w chip op : ℕ) (e : w ≡ chip * 256 + op) where
-  by-chip : (s : List ℕ) → (chip ≡ 0x22 → of22 op s ≡ Unknown) → (chip ≡ 0x32 → of32 op s ≡ Unknown) → (chip ≡ 0x45 → of45 op s ≡ Unknown) → ofBytes (chip ∷ op ∷ s) ≡ Unknown
-  by-chip s n₂₂ n₃₂ n₄₅ = if-equal chip 0x22 n₂₂ (if-equal chip 0x32 n₃₂ (if-equal chip 0x45 n₄₅ refl))
-
-  differs : (a b : ℕ) → chip ≡ a → (w ≡ a * 256 + b → ⊥) → eqb op b ≡ false
-  differs a b f n = ne-eqb op b (λ g. n (e ∙ ap₂ (λ (x y : ℕ). x * 256 + y) f g))
-
-  pub none-other : (w ≡ 0x2201 → ⊥) → (w ≡ 0x3201 → ⊥) → (w ≡ 0x4501 → ⊥) → (w ≡ 0x2206 → ⊥) → (w ≡ 0x3206 → ⊥) → ofBytes (chip ∷ op ∷ []) ≡ Unknown
-  none-other a b c d f =
-      by-chip [] (λ h. rw (differs 0x22 0x01 h a, differs 0x22 0x06 h d) (simp either-same))
-      (λ h. rw (differs 0x32 0x01 h b, differs 0x32 0x06 h f) (simp either-same)) (λ h. rw (differs 0x45 0x01 h c) (simp either-same))
-
-  pub one-other : (x : ℕ) → (w ≡ 0x2203 → ⊥) → (w ≡ 0x3203 → ⊥) → (w ≡ 0x4503 → ⊥) → (w ≡ 0x4504 → ⊥) → ofBytes (chip ∷ op ∷ x ∷ []) ≡ Unknown
-  one-other x a b c d =
-      by-chip (x ∷ []) (λ h. rw (differs 0x22 0x03 h a) (simp either-same)) (λ h. rw (differs 0x32 0x03 h b) (simp either-same))
-      (λ h. rw (differs 0x45 0x03 h c, differs 0x45 0x04 h d) (simp either-same))
-
-  pub two-other : (x y : ℕ) → (w ≡ 0x2202 → ⊥) → (w ≡ 0x3202 → ⊥) → (w ≡ 0x4502 → ⊥) → (w ≡ 0x3204 → ⊥) → ofBytes (chip ∷ op ∷ x ∷ y ∷ []) ≡ Unknown
-  two-other x y a b c d =
-      by-chip (x ∷ y ∷ []) (λ h. rw (differs 0x22 0x02 h a) (simp either-same)) (λ h. rw (differs 0x32 0x02 h b, differs 0x32 0x04 h d) (simp either-same))
-      (λ h. rw (differs 0x45 0x02 h c) (simp either-same))
-
-  pub three-other : (x y z : ℕ) → (w ≡ 0x2204 → ⊥) → ofBytes (chip ∷ op ∷ x ∷ y ∷ z ∷ []) ≡ Unknown
-  three-other x y z a = by-chip (x ∷ y ∷ z ∷ []) (λ h. rw (differs 0x22 0x04 h a) (simp either-same)) (λ h. simp either-same) (λ h. simp either-same)
-
-  pub four-other : (x y z v : ℕ) → (w ≡ 0x2205 → ⊥) → (w ≡ 0x3205 → ⊥) → (w ≡ 0x4505 → ⊥) → (w ≡ 0x4507 → ⊥) → ofBytes (chip ∷ op ∷ x ∷ y ∷ z ∷ v ∷ []) ≡ Unknown
-  four-other x y z v a b c d =
-      by-chip (x ∷ y ∷ z ∷ v ∷ []) (λ h. rw (differs 0x22 0x05 h a) (simp either-same)) (λ h. rw (differs 0x32 0x05 h b) (simp either-same))
-      (λ h. rw (differs 0x45 0x05 h c, differs 0x45 0x07 h d) (simp either-same))
+      go : Dec (pairAt l 0 < 256) → Dec (pairAt l 2 < 256) → (if areBytes s then called w s else Unknown) ≡ checked (pairAt l 0 ∷ pairAt l 2 ∷ s)
+      go (yes p) (yes q) = rw (lt-ltb (pairAt l 0) 256 p, lt-ltb (pairAt l 2) 256 q, e)
+      go (yes p) (no q) =
+          let h = pair-wide _ _ q in
+          unknown (omega (arith, e, h)) ∙ sym (rw (lt-ltb (pairAt l 0) 256 p, le-ltb (pairAt l 2) 256 (omega arith)))
+      go (no p) d =
+          let h = pair-wide _ _ p in
+          unknown (omega (arith, e, h)) ∙ sym (rw (le-ltb (pairAt l 0) 256 (omega arith)))
 
 -- ---- other lines
 
@@ -214,13 +238,15 @@ halves (h ∷ l ∷ s) e =
     let i = halves s (both (ltb (pairOf h l) 256) (areBytes (bytesOf s)) e .1) in
     omega arith
 
--- no operation has more than four operands
+-- what has other numbers of operands is no call
 no-call : (s : List ℕ) → ((k : ℕ) → k ≤ 4 → length s ≡ 2 + k → ⊥) → ofBytes s ≡ Unknown
 no-call [] n = refl
 no-call (a ∷ []) n = refl
-no-call (a ∷ b ∷ s) n =
-    let m : (k : ℕ) → k ≤ 4 → eqb (length s) k ≡ false = λ k u. ne-eqb (length s) k (λ e. n k u (omega arith)) in
-    simp (m 0 (lit≤ tt), m 1 (lit≤ tt), m 2 (lit≤ tt), m 3 (lit≤ tt), m 4 (lit≤ tt), either-same)
+no-call (a ∷ b ∷ s) n = longer (a * 256 + b) s (go (decLt 4 (length s)))
+  where
+    go : Dec (4 < length s) → 4 < length s
+    go (yes h) = h
+    go (no h) = absurd (n (length s) (omega arith) (omega arith))
 
 other : (l : List ℕ) → ((k : ℕ) → k ≤ 4 → length l ≡ 4 + 2 * k → ⊥) → Unknown ≡ frameOf l
 unfolding frameOf checked

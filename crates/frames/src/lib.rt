@@ -1,8 +1,9 @@
 // Which call a line of a session is: the byte of a chip, an operation's number and its operands, two digits a byte.
 ghost use mathlib.Core.Path.{_≡_};
-ghost use lib.ListN.{length};
-ghost use Rattle.frames.specs.Frames.{frameOf};
+ghost use mathlib.Core.List.{[], _∷_};
+ghost use Rattle.frames.specs.Frames.{asked, frameOf};
 use calls::Call22;
+use calls::Call25;
 use calls::Call32;
 use calls::Call45;
 use hex::byte_at;
@@ -14,101 +15,92 @@ mod hex;
 pub enum Frame {
     Unknown,
     To22(Call22),
+    To25(Call25),
     To32(Call32),
     To45(Call45),
 }
 
-// Lines by the number of their operands. Chip and operation are told apart as one word, the line's first four digits.
-fn none(line: &[u8]) -> Frame
-    requires { ⌜ length (now line) ≡ 4 ⌝ }
-    ensures { λ r. ⌜ r ≡ frameOf (now (line .entry)) ⌝ }
+// Calls by the number of their operands, each of which may be too large for a byte. Chip and operation are told apart as one word, the
+// line's first four digits.
+fn bare(word: u32) -> Frame
+    ensures { λ r. ⌜ r ≡ asked word [] ⌝ }
 {
-    match word_at(line, 0) {
+    match word {
         0x2201 => Frame::To22(Call22::Reset),
-        0x3201 => Frame::To32(Call32::Reset),
-        0x4501 => Frame::To45(Call45::Reset),
         0x2206 => Frame::To22(Call22::Forecast),
+        0x2501 => Frame::To25(Call25::Reset),
+        0x3201 => Frame::To32(Call32::Reset),
         0x3206 => Frame::To32(Call32::Forecast),
+        0x4501 => Frame::To45(Call45::Reset),
         _ => Frame::Unknown,
     }
 }
 
-fn one(line: &[u8]) -> Frame
-    requires { ⌜ length (now line) ≡ 6 ⌝ }
-    ensures { λ r. ⌜ r ≡ frameOf (now (line .entry)) ⌝ }
+fn with_one(word: u32, a: u32) -> Frame
+    ensures { λ r. ⌜ r ≡ asked word (a ∷ []) ⌝ }
 {
-    let byte = byte_at(line, 4);
-    if byte > 255 {
+    if a > 255 {
         return Frame::Unknown;
     }
-    let a = byte as u8;
-    match word_at(line, 0) {
-        0x2203 => Frame::To22(Call22::Read(a)),
-        0x3203 => Frame::To32(Call32::Read(a)),
-        0x4503 => Frame::To45(Call45::Read(a)),
-        0x4504 => Frame::To45(Call45::Pins(a)),
+    let x = a as u8;
+    match word {
+        0x2203 => Frame::To22(Call22::Read(x)),
+        0x2503 => Frame::To25(Call25::Read(x)),
+        0x3203 => Frame::To32(Call32::Read(x)),
+        0x4503 => Frame::To45(Call45::Read(x)),
+        0x4504 => Frame::To45(Call45::Pins(x)),
         _ => Frame::Unknown,
     }
 }
 
-fn two(line: &[u8]) -> Frame
-    requires { ⌜ length (now line) ≡ 8 ⌝ }
-    ensures { λ r. ⌜ r ≡ frameOf (now (line .entry)) ⌝ }
+fn with_two(word: u32, a: u32, b: u32) -> Frame
+    ensures { λ r. ⌜ r ≡ asked word (a ∷ b ∷ []) ⌝ }
 {
-    let word = word_at(line, 4);
-    if word > 65535 {
+    if (a > 255) | (b > 255) {
         return Frame::Unknown;
     }
-    let a = (word / 256) as u8;
-    let b = (word % 256) as u8;
-    match word_at(line, 0) {
-        0x2202 => Frame::To22(Call22::Write(a, b)),
-        0x3202 => Frame::To32(Call32::Write(a, b)),
-        0x4502 => Frame::To45(Call45::Write(a, b)),
-        0x3204 => Frame::To32(Call32::Pins(a, b)),
+    let x = a as u8;
+    let y = b as u8;
+    match word {
+        0x2202 => Frame::To22(Call22::Write(x, y)),
+        0x2502 => Frame::To25(Call25::Write(x, y)),
+        0x3202 => Frame::To32(Call32::Write(x, y)),
+        0x3204 => Frame::To32(Call32::Pins(x, y)),
+        0x4502 => Frame::To45(Call45::Write(x, y)),
         _ => Frame::Unknown,
     }
 }
 
-fn three(line: &[u8]) -> Frame
-    requires { ⌜ length (now line) ≡ 10 ⌝ }
-    ensures { λ r. ⌜ r ≡ frameOf (now (line .entry)) ⌝ }
+fn with_three(word: u32, a: u32, b: u32, c: u32) -> Frame
+    ensures { λ r. ⌜ r ≡ asked word (a ∷ b ∷ c ∷ []) ⌝ }
 {
-    let word = word_at(line, 4);
-    if word > 65535 {
+    if (a > 255) | (b > 255) | (c > 255) {
         return Frame::Unknown;
     }
-    let byte = byte_at(line, 8);
-    if byte > 255 {
-        return Frame::Unknown;
-    }
-    let a = (word / 256) as u8;
-    let b = (word % 256) as u8;
-    let c = byte as u8;
-    match word_at(line, 0) {
-        0x2204 => Frame::To22(Call22::Pins(a, b, c)),
+    let x = a as u8;
+    let y = b as u8;
+    let z = c as u8;
+    match word {
+        0x2204 => Frame::To22(Call22::Pins(x, y, z)),
+        0x2504 => Frame::To25(Call25::Pins(x, y, z)),
         _ => Frame::Unknown,
     }
 }
 
-fn four(line: &[u8]) -> Frame
-    requires { ⌜ length (now line) ≡ 12 ⌝ }
-    ensures { λ r. ⌜ r ≡ frameOf (now (line .entry)) ⌝ }
+// Four operands are a count.
+fn with_four(word: u32, a: u32, b: u32, c: u32, d: u32) -> Frame
+    ensures { λ r. ⌜ r ≡ asked word (a ∷ b ∷ c ∷ d ∷ []) ⌝ }
 {
-    let high = word_at(line, 4);
-    if high > 65535 {
+    if (a > 255) | (b > 255) | (c > 255) | (d > 255) {
         return Frame::Unknown;
     }
-    let low = word_at(line, 8);
-    if low > 65535 {
-        return Frame::Unknown;
-    }
-    let clocks = high * 65536 + low;
-    match word_at(line, 0) {
-        0x2205 => Frame::To22(Call22::Run(clocks)),
-        0x3205 => Frame::To32(Call32::Run(clocks)),
-        0x4505 => Frame::To45(Call45::Run(clocks, false)),
-        0x4507 => Frame::To45(Call45::Run(clocks, true)),
+    let n = ((a * 256 + b) * 256 + c) * 256 + d;
+    match word {
+        0x2205 => Frame::To22(Call22::Run(n)),
+        0x2505 => Frame::To25(Call25::Run(n)),
+        0x3205 => Frame::To32(Call32::Run(n)),
+        0x4505 => Frame::To45(Call45::Run(n, false)),
+        0x4507 => Frame::To45(Call45::Run(n, true)),
         _ => Frame::Unknown,
     }
 }
@@ -118,11 +110,22 @@ pub fn decode(line: &[u8]) -> Frame
     ensures { λ r. ⌜ r ≡ frameOf (now (line .entry)) ⌝ }
 {
     match line.len() {
-        4 => none(line),
-        6 => one(line),
-        8 => two(line),
-        10 => three(line),
-        12 => four(line),
+        4 => bare(word_at(line, 0)),
+        6 => with_one(word_at(line, 0), byte_at(line, 4)),
+        8 => with_two(word_at(line, 0), byte_at(line, 4), byte_at(line, 6)),
+        10 => with_three(
+            word_at(line, 0),
+            byte_at(line, 4),
+            byte_at(line, 6),
+            byte_at(line, 8),
+        ),
+        12 => with_four(
+            word_at(line, 0),
+            byte_at(line, 4),
+            byte_at(line, 6),
+            byte_at(line, 8),
+            byte_at(line, 10),
+        ),
         _ => Frame::Unknown,
     }
 }
