@@ -7,6 +7,7 @@ use Rattle.clocks.specs.Clocks.{if_then_else_}
 use Rattle.replies.specs.declared.Reply.{Reply}
 use Rattle.replies.specs.declared.Reply.the-variants.{Done, Data, Read, Number}
 use Rattle.calls.specs.declared.Call22.{Call22}
+use Rattle.calls.specs.declared.Call25.{Call25}
 use Rattle.calls.specs.declared.Call32.{Call32}
 use Rattle.calls.specs.declared.Call45.{Call45}
 use Rattle.chips.specs.Chips.{next}
@@ -14,6 +15,9 @@ use Rattle.via6522.specs.Chip as Chip22
 use Rattle.via6522.specs.declared.Via.{Via}
 use Rattle.via6522.specs.declared.Answer as Answer22
 use Rattle.via6522.specs.declared.Reading as Reading22
+use Rattle.tpi6525.specs.Chip as Chip25
+use Rattle.tpi6525.specs.declared.Tpi.{Tpi}
+use Rattle.tpi6525.specs.declared.Answer as Answer25
 use Rattle.riot6532.specs.Record.{beside}
 use Rattle.riot6532.specs.Chip as Chip32
 use Rattle.riot6532.specs.declared.Io.{Io}
@@ -24,8 +28,9 @@ use Rattle.crtc6545.specs.Chip as Chip45
 use Rattle.crtc6545.specs.declared.Crtc.{Crtc}
 use Rattle.crtc6545.specs.declared.Answer as Answer45
 use Rattle.crtc6545.specs.declared.Reading as Reading45
-use Rattle.calling.specs.Told.{replied, lineOf, lines45, reply22, reply32, reply45}
+use Rattle.calling.specs.Told.{replied, lineOf, lines45, reply22, reply25, reply32, reply45}
 use Rattle.calling.specs.declared.After22.{After22}
+use Rattle.calling.specs.declared.After25.{After25}
 use Rattle.calling.specs.declared.After32.{After32}
 use Rattle.calling.specs.declared.After45.{After45}
 
@@ -39,6 +44,12 @@ data22 r =
       via = r .answer .via;
       reply = replied (r .answer .refusal) (Read (lineOf (r .answer .irq)) (r .answer .«data») (r .cleared));
     }
+
+abbrev pub done25 : Answer25.Answer → After25
+done25 a = record { tpi = a .tpi; reply = replied (a .refusal) (Done (lineOf (a .irq))) }
+
+abbrev pub data25 : Answer25.Answer → After25
+data25 a = record { tpi = a .tpi; reply = replied (a .refusal) (Data (lineOf (a .irq)) (a .«data»)) }
 
 abbrev pub done32 : IoAnswer → After32
 done32 a = record { io = a .io; reply = replied (a .refusal) (Done (lineOf (a .irq))) }
@@ -78,6 +89,9 @@ ran45 counted turns a = record { crtc = a .crtc; reply = replied (a .refusal) (t
 -- what a call leaves of a chip, and its reply
 abbrev pub after22 : Via → Call22 → After22
 after22 v c = record { via = next Chip22.chip c v; reply = reply22 v c }
+
+abbrev pub after25 : Tpi → Call25 → After25
+after25 v c = record { tpi = next Chip25.chip c v; reply = reply25 v c }
 
 abbrev pub after45 : Crtc → Call45 → After45
 after45 v c = record { crtc = next Chip45.chip c v; reply = reply45 v c }

@@ -6,6 +6,8 @@ use Rattle.clocks.specs.Clocks.{if_then_else_}
 use Rattle.clocks.specs.Forecasts.{numberOf, firstFrom}
 use Rattle.calls.specs.declared.Call22.{Call22}
 use Rattle.calls.specs.declared.Call22.the-variants as Via
+use Rattle.calls.specs.declared.Call25.{Call25}
+use Rattle.calls.specs.declared.Call25.the-variants as Tpi
 use Rattle.calls.specs.declared.Call32.{Call32}
 use Rattle.calls.specs.declared.Call32.the-variants as Riot
 use Rattle.calls.specs.declared.Call45.{Call45}
@@ -15,6 +17,8 @@ use Rattle.replies.specs.declared.Reply.the-variants.{Refused, Done, Data, Read
 use Rattle.chips.specs.Chips.{answer, line}
 use Rattle.via6522.specs.Chip as Chip22
 use Rattle.via6522.specs.declared.Via.{Via}
+use Rattle.tpi6525.specs.Chip as Chip25
+use Rattle.tpi6525.specs.declared.Tpi.{Tpi}
 use Rattle.riot6532.specs.Chip as Chip32
 use Rattle.riot6532.specs.declared.Riot.{Riot}
 use Rattle.crtc6545.specs.Chip as Chip45
@@ -41,7 +45,7 @@ told (turns t) l d n = Number l t
 abbrev pub replied : ℕ → Reply → Reply
 replied n r = if eqb n 0 then r else Refused n
 
--- the line byte: the interrupt line of the 6522 and the 6532, and four lines of the 6545 in bits 0 to 3
+-- the line byte: the interrupt line of the 6522, the 6525 and the 6532, and four lines of the 6545 in bits 0 to 3
 abbrev pub lineOf : Bool → ℕ
 lineOf irq = if irq then 1 else 0
 
@@ -67,6 +71,21 @@ abbrev pub reply22 : Via → Call22 → Reply
 reply22 v c =
     replied (answer Chip22.chip c v .refusal)
     (told (kind22 c v) (lineOf (answer Chip22.chip c v .irq)) (answer Chip22.chip c v .«data») (forecast22 v))
+
+-- ---- the 6525
+
+-- a read shows its byte and no mask
+abbrev pub kind25 : Call25 → Tpi → Kind
+kind25 Tpi.Reset v = nothing
+kind25 (Tpi.Write r x) v = nothing
+kind25 (Tpi.Read r) v = a-byte
+kind25 (Tpi.Pins pa pb pc) v = nothing
+kind25 (Tpi.Run n) v = nothing
+
+abbrev pub reply25 : Tpi → Call25 → Reply
+reply25 v c =
+    replied (answer Chip25.chip c v .refusal)
+    (told (kind25 c v) (lineOf (answer Chip25.chip c v .irq)) (answer Chip25.chip c v .«data») 0)
 
 -- ---- the 6532
 

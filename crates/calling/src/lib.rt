@@ -5,8 +5,9 @@ ghost use Prim.Native.Nat.{ℕ, _≤_};
 ghost use Rattle.clocks.specs.Clocks.{if_then_else_};
 ghost use Rattle.clocks.specs.Forecasts.{numberOf};
 ghost use Rattle.calling.specs.Told.{replied as repliedOf, lineOf, lines45 as lines45Of};
-ghost use Rattle.calling.specs.After.{done22 as done22Of, data22 as data22Of, done32 as done32Of, data32 as data32Of, done45 as done45Of, shown45, data45 as data45Of, turns45 as turns45Of, turned45, ran45 as ran45Of, after22, After, after45};
+ghost use Rattle.calling.specs.After.{done22 as done22Of, data22 as data22Of, done25 as done25Of, data25 as data25Of, done32 as done32Of, data32 as data32Of, done45 as done45Of, shown45, data45 as data45Of, turns45 as turns45Of, turned45, ran45 as ran45Of, after22, after25, After, after45};
 use calls::Call22;
+use calls::Call25;
 use calls::Call32;
 use calls::Call45;
 use clocks::Forecast;
@@ -14,11 +15,17 @@ use clocks::choose8;
 use crtc6545::Crtc;
 use replies::Reply;
 use riot6532::Io;
+use tpi6525::Tpi;
 use via6522::Via;
 
 // What a call leaves of one chip, and its reply.
 pub struct After22 {
     pub via: Via,
+    pub reply: Reply,
+}
+
+pub struct After25 {
+    pub tpi: Tpi,
     pub reply: Reply,
 }
 
@@ -108,6 +115,40 @@ pub fn on22(via: Via, call: Call22) -> After22
         Call22::Pins(pa, pb, control) => done22(via.pins(pa, pb, control)),
         Call22::Run(n) => done22(via.run(n)),
         Call22::Forecast => foreseen22(via),
+    }
+}
+
+fn done25(answer: tpi6525::Answer) -> After25
+    ensures { λ r. ⌜ r ≡ done25Of answer ⌝ }
+{
+    let tpi = answer.tpi;
+    After25 {
+        tpi,
+        reply: replied(answer.refusal, Reply::Done(line(answer.irq))),
+    }
+}
+
+// No mask follows the byte that a read of the 6525 gives.
+fn data25(answer: tpi6525::Answer) -> After25
+    ensures { λ r. ⌜ r ≡ data25Of answer ⌝ }
+{
+    let tpi = answer.tpi;
+    let reply = Reply::Data(line(answer.irq), answer.data);
+    After25 {
+        tpi,
+        reply: replied(answer.refusal, reply),
+    }
+}
+
+pub fn on25(tpi: Tpi, call: Call25) -> After25
+    ensures { λ r. ⌜ r ≡ after25 tpi call ⌝ }
+{
+    match call {
+        Call25::Reset => done25(tpi.reset()),
+        Call25::Write(register, value) => done25(tpi.write(register, value)),
+        Call25::Read(register) => data25(tpi.read(register)),
+        Call25::Pins(pa, pb, pc) => done25(tpi.pins(pa, pb, pc)),
+        Call25::Run(n) => done25(tpi.run(n)),
     }
 }
 

@@ -5,16 +5,16 @@ use Prim.Native.Nat.{ℕ}
 use Rattle.frames.specs.declared.Frame.the-variants.{To32}
 use Rattle.replies.specs.declared.Reply.{Reply}
 use Rattle.calls.specs.declared.Call32.{Call32}
+use Rattle.riot6532.specs.Record.{beside}
 use Rattle.riot6532.specs.declared.Riot.{Riot}
 use Rattle.calling.specs.After.{After}
 use Rattle.calling.specs.declared.After32.{After32}
-use Rattle.session.specs.Steps.{stepOf}
-use Rattle.session.specs.Core.{joined, stepped}
+use Rattle.session.specs.Steps.{withRiot, stepOf}
+use Rattle.session.specs.Core.{joined}
 use Rattle.session.specs.declared.Core.{Core}
 
 pub moved32 :
     (before now : List ℕ) (b : Core) (c : Call32) {r : After32} → After before now (b .io) c r
-    → stepped now (record { core = record { via = b .via; io = r .io; crtc = b .crtc }; reply = r .reply }) ≡ stepOf (joined before b) (To32 c)
+    → record { bench = withRiot (beside now (r .io)) (joined before b); reply = r .reply } ≡ stepOf (joined before b) (To32 c)
 unfolding stepOf
-moved32 before now b c a =
-    ap₂ (λ (v : Riot) (x : Reply). record { bench = record { via = b .via; riot = v; crtc = b .crtc }; reply = x }) (a .riot) (a .reply)
+moved32 before now b c a = ap₂ (λ (v : Riot) (x : Reply). record { bench = withRiot v (joined before b); reply = x }) (a .riot) (a .reply)

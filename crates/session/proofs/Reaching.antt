@@ -10,7 +10,7 @@ use Rattle.clocks.specs.Clocks.{if_then_else_}
 use Rattle.frames.specs.Frames.{frameOf}
 use Rattle.frames.specs.Demands as Frames
 use Rattle.frames.specs.declared.Frame.{Frame}
-use Rattle.frames.specs.declared.Frame.the-variants.{Unknown, To22, To32, To45}
+use Rattle.frames.specs.declared.Frame.the-variants.{Unknown, To22, To25, To32, To45}
 use Rattle.frames.proofs.Demands.{frames-typed}
 use Rattle.replies.specs.declared.Reply.{Reply}
 use Rattle.replies.specs.declared.Reply.the-variants.{Refused, Done, Data, Read, Number}
@@ -19,11 +19,13 @@ use Rattle.chips.specs.Chips.{Chip, answer, at-power-up, by}
 use Rattle.chips.proofs.Chips.{Lawful, reached-well, answers}
 use Rattle.via6522.specs.Chip as Chip22
 use Rattle.via6522.proofs.Lawful as Lawful22
+use Rattle.tpi6525.specs.Chip as Chip25
+use Rattle.tpi6525.proofs.Lawful as Lawful25
 use Rattle.riot6532.specs.Chip as Chip32
 use Rattle.riot6532.proofs.Lawful as Lawful32
 use Rattle.crtc6545.specs.Chip as Chip45
 use Rattle.crtc6545.proofs.Lawful as Lawful45
-use Rattle.calling.specs.Told.{Kind, nothing, a-byte, a-byte-and-mask, a-forecast, turns, told, replied, kind22, kind32, kind45}
+use Rattle.calling.specs.Told.{Kind, nothing, a-byte, a-byte-and-mask, a-forecast, turns, told, replied, kind22, kind25, kind32, kind45}
 use Rattle.session.specs.Steps.{powerUp, stepOf}
 use Rattle.session.specs.Sessions.{nextOf, nextAll}
 use Rattle.session.specs.Demands
@@ -31,15 +33,17 @@ use Rattle.session.specs.declared.Bench.{Bench}
 
 record Reached (b : Bench) : Type 0 where
   via : Chips.Reached Chip22.chip (b .via)
+  tpi : Chips.Reached Chip25.chip (b .tpi)
   riot : Chips.Reached Chip32.chip (b .riot)
   crtc : Chips.Reached Chip45.chip (b .crtc)
 
 reached-step : (b : Bench) (f : Frame) → Frames.Typed f → Reached b → Reached (stepOf b f .bench)
 unfolding stepOf
 reached-step b Unknown t r = r
-reached-step b (To22 c) t r = record { via = by c t (r .via); riot = r .riot; crtc = r .crtc }
-reached-step b (To32 c) t r = record { via = r .via; riot = by c t (r .riot); crtc = r .crtc }
-reached-step b (To45 c) t r = record { via = r .via; riot = r .riot; crtc = by c t (r .crtc) }
+reached-step b (To22 c) t r = search (by c t (r .via))
+reached-step b (To25 c) t r = search (by c t (r .tpi))
+reached-step b (To32 c) t r = search (by c t (r .riot))
+reached-step b (To45 c) t r = search (by c t (r .crtc))
 
 reached-all : (b : Bench) (ls : List (List ℕ)) → Reached b → Reached (nextAll b ls)
 unfolding nextOf
@@ -48,10 +52,10 @@ reached-all b (l ∷ ls) r = reached-all (nextOf b l) ls (reached-step b (frameO
 
 reached : (ls : List (List ℕ)) → Reached (nextAll powerUp ls)
 unfolding powerUp
-reached ls = reached-all powerUp ls (record { via = at-power-up; riot = at-power-up; crtc = at-power-up })
+reached ls = reached-all powerUp ls (record { via = at-power-up; tpi = at-power-up; riot = at-power-up; crtc = at-power-up })
 
 pub chips-reached : Demands.Chips-reached
-chips-reached ls = let r = reached ls in (r .via, r .riot, r .crtc)
+chips-reached ls = let r = reached ls in (r .via, r .tpi, r .riot, r .crtc)
 
 -- ---- the refusal that a reply says, 0 for none
 
@@ -78,43 +82,34 @@ number-replied n k l d x = go (eqb n 0) refl
     go true e = told-none k l d x ∙ sym (eqb-true n 0 e)
     go false e = refl
 
--- it is 2 for what is no frame, and else that of the chip's answer
-module _ (P : Frame → ℕ → Type 0) (b : Bench) where
-  says-number :
-      P Unknown 2
-      → ((c : Chip22.chip .Call) → P (To22 c) (answer Chip22.chip c (b .via) .refusal))
-      → ((c : Chip32.chip .Call) → P (To32 c) (answer Chip32.chip c (b .riot) .refusal))
-      → ((c : Chip45.chip .Call) → P (To45 c) (answer Chip45.chip c (b .crtc) .refusal))
-      → (f : Frame) → P f (number (stepOf b f .reply))
-  unfolding stepOf number
-  says-number none via riot crtc Unknown = none
-  says-number none via riot crtc (To22 c) = rw (number-replied (answer Chip22.chip c (b .via) .refusal) (kind22 c (b .via)) _ _ _) (via c)
-  says-number none via riot crtc (To32 c) = rw (number-replied (answer Chip32.chip c (b .riot) .refusal) (kind32 c (b .riot)) _ _ _) (riot c)
-  says-number none via riot crtc (To45 c) = rw (number-replied (answer Chip45.chip c (b .crtc) .refusal) (kind45 c (b .crtc)) _ _ _) (crtc c)
+-- it is 2 for what is no frame, and else that of the answer of a chip, which is a reached one if those of the bench are
+data Says (b : Bench) : Frame → ℕ → Type 1 where
+  of-none : Says b Unknown 2
+  of-chip :
+      {f : Frame} (C : Chip) (S : Lawful C) (c : C .Call) (v : C .State) → (Reached b → Chips.Reached C v)
+      → Says b f (C .number (answer C c v))
 
--- a reached chip answers no call with 1
-not-1 : (C : Chip) (S : Lawful C) (v : C .State) (c : C .Call) → Chips.Reached C v → C .number (answer C c v) ≡ 1 → ⊥
-not-1 C S v c r e = true≢false (sym (reached-well C S v r) ∙ answers C S .one-only-ill c v e)
+says : (b : Bench) (f : Frame) → Says b f (number (stepOf b f .reply))
+unfolding stepOf number
+says b Unknown = of-none
+says b (To22 c) = rw (number-replied _ (kind22 c (b .via)) _ _ _) (of-chip Chip22.chip Lawful22.lawful c (b .via) (λ r. r .via))
+says b (To25 c) = rw (number-replied _ (kind25 c (b .tpi)) _ _ _) (of-chip Chip25.chip Lawful25.lawful c (b .tpi) (λ r. r .tpi))
+says b (To32 c) = rw (number-replied _ (kind32 c (b .riot)) _ _ _) (of-chip Chip32.chip Lawful32.lawful c (b .riot) (λ r. r .riot))
+says b (To45 c) = rw (number-replied _ (kind45 c (b .crtc)) _ _ _) (of-chip Chip45.chip Lawful45.lawful c (b .crtc) (λ r. r .crtc))
+
+-- a reached chip answers no call with 1, and no chip any with 2
+not-1 : {b : Bench} {f : Frame} {n : ℕ} → Says b f n → Reached b → n ≡ 1 → ⊥
+not-1 of-none r e = omega (arith, e)
+not-1 (of-chip C S c v h) r e = true≢false (sym (reached-well C S v (h r)) ∙ answers C S .one-only-ill c v e)
+
+only-2 : {b : Bench} {f : Frame} {n : ℕ} → Says b f n → n ≡ 2 → f ≡ Unknown
+only-2 of-none e = refl
+only-2 (of-chip C S c v h) e = absurd (answers C S .never-2 c v e)
 
 pub never-1 : Demands.Never-1
 unfolding number
-never-1 ls l e =
-    let r = reached ls in
-    says-number (λ f n. n ≡ 1 → ⊥) (nextAll powerUp ls)
-    (λ q. omega (arith, q))
-    (λ c. not-1 Chip22.chip Lawful22.lawful _ c (r .via))
-    (λ c. not-1 Chip32.chip Lawful32.lawful _ c (r .riot))
-    (λ c q. not-1 Chip45.chip Lawful45.lawful _ c (r .crtc) q)
-    (frameOf l) (ap number e)
+never-1 ls l e = not-1 (says (nextAll powerUp ls) (frameOf l)) (reached ls) (ap number e)
 
 pub two-exact : Demands.Two-exact
 unfolding stepOf number
-two-exact b l = (
-  λ e. says-number (λ f n. n ≡ 2 → f ≡ Unknown) b
-      (λ q. refl)
-      (λ c q. absurd (answers Chip22.chip Lawful22.lawful .never-2 c (b .via) q))
-      (λ c q. absurd (answers Chip32.chip Lawful32.lawful .never-2 c (b .riot) q))
-      (λ c q. absurd (answers Chip45.chip Lawful45.lawful .never-2 c (b .crtc) q))
-      (frameOf l) (ap number e),
-  λ e. ap (λ (f : Frame). stepOf b f .reply) e,
-)
+two-exact b l = (λ e. only-2 (says b (frameOf l)) (ap number e), λ e. ap (λ (f : Frame). stepOf b f .reply) e)

@@ -9,10 +9,10 @@ use Rattle.session.specs.declared.Stepped.{Stepped}
 
 -- the bench that a RAM and a core are, and its core
 abbrev pub joined : List ℕ → Core → Bench
-joined m c = record { via = c .via; riot = beside m (c .io); crtc = c .crtc }
+joined m c = record { via = c .via; tpi = c .tpi; riot = beside m (c .io); crtc = c .crtc }
 
 abbrev pub coreOf : Bench → Core
-coreOf b = record { via = b .via; io = b .riot .io; crtc = b .crtc }
+coreOf b = record { via = b .via; tpi = b .tpi; io = b .riot .io; crtc = b .crtc }
 
 -- what a frame leaves of core and RAM, and its reply
 abbrev pub stepped : List ℕ → Answered → Stepped

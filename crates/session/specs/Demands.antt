@@ -9,6 +9,7 @@ use Rattle.frames.specs.declared.Frame.the-variants.{Unknown}
 use Rattle.replies.specs.declared.Reply.the-variants.{Refused}
 use Rattle.chips.specs.Chips.{Reached}
 use Rattle.via6522.specs.Chip as Chip22
+use Rattle.tpi6525.specs.Chip as Chip25
 use Rattle.riot6532.specs.Chip as Chip32
 use Rattle.crtc6545.specs.Chip as Chip45
 use Rattle.session.specs.Steps.{powerUp, stepOf}
@@ -60,6 +61,7 @@ abbrev pub Chips-reached : Type 0
 Chips-reached =
     (ls : List (List ℕ))
     → Reached Chip22.chip (nextAll powerUp ls .via)
+    × Reached Chip25.chip (nextAll powerUp ls .tpi)
     × Reached Chip32.chip (nextAll powerUp ls .riot)
     × Reached Chip45.chip (nextAll powerUp ls .crtc)
 

@@ -1,4 +1,4 @@
-// A session on the bench of three chips: lines in, replies out, whole files in pieces of any size.
+// A session on the bench of four chips: lines in, replies out, whole files in pieces of any size.
 ghost use mathlib.Core.Path.{_≡_};
 ghost use mathlib.Core.List.{[]};
 ghost use Prim.Native.Nat.{_<_};
@@ -13,10 +13,12 @@ use frames::Frame;
 use replies::Reply;
 use riot6532::Io;
 use riot6532::Riot;
+use tpi6525::Tpi;
 use via6522::Via;
 
 pub struct Bench {
     pub via: Via,
+    pub tpi: Tpi,
     pub riot: Riot,
     pub crtc: Crtc,
 }
@@ -24,6 +26,7 @@ pub struct Bench {
 // The bench without the 6532's RAM, which is lent beside it.
 struct Core {
     via: Via,
+    tpi: Tpi,
     io: Io,
     crtc: Crtc,
 }
@@ -64,6 +67,13 @@ impl Core {
                 self.via = via;
                 Answered { core: self, reply }
             }
+            Frame::To25(call) => {
+                let after = calling::on25(self.tpi, call);
+                let tpi = after.tpi;
+                let reply = after.reply;
+                self.tpi = tpi;
+                Answered { core: self, reply }
+            }
             Frame::To32(call) => {
                 let after = calling::on32(self.io, ram, call);
                 let io = after.io;
@@ -92,10 +102,12 @@ impl Core {
         ensures { λ r. ⌜ r ≡ joined ram self ⌝ }
     {
         let via = self.via;
+        let tpi = self.tpi;
         let io = self.io;
         let crtc = self.crtc;
         Bench {
             via,
+            tpi,
             riot: Riot { ram, io },
             crtc,
         }
@@ -118,6 +130,7 @@ impl Bench {
     {
         Bench {
             via: Via::power_up(),
+            tpi: Tpi::power_up(),
             riot: Riot::power_up(),
             crtc: Crtc::power_up(),
         }
@@ -128,9 +141,10 @@ impl Bench {
     {
         let riot = self.riot;
         let via = self.via;
+        let tpi = self.tpi;
         let io = riot.io;
         let crtc = self.crtc;
-        Core { via, io, crtc }
+        Core { via, tpi, io, crtc }
     }
 
     // One line without its LF, of any length and content.

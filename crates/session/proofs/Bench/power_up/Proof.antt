@@ -8,4 +8,4 @@ unfolding powerUp
 returns c = cc
 
 pub power-up-spec : {M : Type 1} → statement M
-power-up-spec = tie.close (tie.spec (λ c κs. search needs) (λ c κs. search needs) (λ c κs. search needs) returns)
+power-up-spec = tie.close (tie.spec (λ c κs. search needs) (λ c κs. search needs) (λ c κs. search needs) (λ c κs. search needs) returns)
