@@ -5,9 +5,11 @@ use Prim.Native.Nat.{ℕ, _<_}
 use lib.Dec.{ltb}
 use borrow.Author.Tests.{ltb-true}
 use Rattle.clocks.proofs.Tests.{both}
-use Rattle.calls.specs.Calls.{Typed22, Typed32, Typed45}
+use Rattle.calls.specs.Calls.{Typed22, Typed25, Typed32, Typed45}
 use Rattle.calls.specs.declared.Call22.{Call22}
 use Rattle.calls.specs.declared.Call22.the-variants as Via
+use Rattle.calls.specs.declared.Call25.{Call25}
+use Rattle.calls.specs.declared.Call25.the-variants as Tpi
 use Rattle.calls.specs.declared.Call32.{Call32}
 use Rattle.calls.specs.declared.Call32.the-variants as Riot
 use Rattle.calls.specs.declared.Call45.{Call45}
@@ -22,6 +24,12 @@ clocks n = ltb n 4294967296
 two : (x y : ℕ) → (byte x && byte y) ≡ true → (x < 256) × (y < 256)
 two x y e = let b = both (byte x) (byte y) e in (ltb-true x 256 (b .0), ltb-true y 256 (b .1))
 
+three : (x y z : ℕ) → (byte x && byte y && byte z) ≡ true → (x < 256) × (y < 256) × (z < 256)
+three x y z e =
+    let b = both (byte x && byte y) (byte z) e in
+    let a = two x y (b .0) in
+    (a .0, a .1, ltb-true z 256 (b .1))
+
 abbrev pub typed22 : Call22 → Bool
 typed22 Via.Reset = true
 typed22 (Via.Write r x) = byte r && byte x
@@ -34,12 +42,23 @@ pub is-typed22 : (c : Call22) → typed22 c ≡ true → Typed22 c
 is-typed22 Via.Reset e = tt
 is-typed22 (Via.Write r x) e = two r x e
 is-typed22 (Via.Read r) e = ltb-true r 256 e
-is-typed22 (Via.Pins pa pb control) e =
-    let b = both (byte pa && byte pb) (byte control) e in
-    let a = two pa pb (b .0) in
-    (a .0, a .1, ltb-true control 256 (b .1))
+is-typed22 (Via.Pins pa pb control) e = three pa pb control e
 is-typed22 (Via.Run n) e = ltb-true n 4294967296 e
 is-typed22 Via.Forecast e = tt
+
+abbrev pub typed25 : Call25 → Bool
+typed25 Tpi.Reset = true
+typed25 (Tpi.Write r x) = byte r && byte x
+typed25 (Tpi.Read r) = byte r
+typed25 (Tpi.Pins pa pb pc) = byte pa && byte pb && byte pc
+typed25 (Tpi.Run n) = clocks n
+
+pub is-typed25 : (c : Call25) → typed25 c ≡ true → Typed25 c
+is-typed25 Tpi.Reset e = tt
+is-typed25 (Tpi.Write r x) e = two r x e
+is-typed25 (Tpi.Read r) e = ltb-true r 256 e
+is-typed25 (Tpi.Pins pa pb pc) e = three pa pb pc e
+is-typed25 (Tpi.Run n) e = ltb-true n 4294967296 e
 
 abbrev pub typed32 : Call32 → Bool
 typed32 Riot.Reset = true

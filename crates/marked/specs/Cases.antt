@@ -1,4 +1,4 @@
--- What a marked case is: the calls that lead to it from power-up, and what must hold there.
+-- What a case is: the calls that lead to it from power-up, and what must hold there.
 use mathlib.Core.Path.{_≡_}
 use mathlib.Core.Bool.{Bool, true, false}
 use mathlib.Core.List.{List, [], _∷_}
@@ -9,6 +9,7 @@ use Rattle.clocks.specs.Forecasts.{comes}
 use Rattle.clocks.specs.declared.Forecast.the-variants.{Never, In}
 use Rattle.clocks.specs.declared.Forecast.{Forecast}
 use Rattle.calls.specs.declared.Call22.{Call22}
+use Rattle.calls.specs.declared.Call25.{Call25}
 use Rattle.calls.specs.declared.Call32.{Call32}
 use Rattle.calls.specs.declared.Call45.{Call45}
 use Rattle.chips.specs.Chips.{Chip, answer, next, line, Foretold}
@@ -17,6 +18,9 @@ use Rattle.via6522.specs.Clock as Clock22
 use Rattle.via6522.specs.Chip as Chip22
 use Rattle.via6522.specs.declared.Via.{Via}
 use Rattle.via6522.specs.declared.Answer.{Answer}
+use Rattle.tpi6525.specs.Signals.{airOf}
+use Rattle.tpi6525.specs.Chip as Chip25
+use Rattle.tpi6525.specs.declared.Tpi.{Tpi}
 use Rattle.riot6532.specs.Clock as Clock32
 use Rattle.riot6532.specs.Chip as Chip32
 use Rattle.riot6532.specs.declared.Riot.{Riot}
@@ -80,6 +84,24 @@ Shows22 (T1-flags-at clocks) = Flags1 0 clocks
 Shows22 (T1-reloads latch forecast n) = Reloads1 latch n
 Shows22 (T2-wraps-unflagged-at n) = Wraps2 n
 
+-- ---- the 6525
+
+-- a step: a call, and then the byte that it gave, whether the interrupt is asserted, and what the active interrupt register shows
+infix 20 _gives_asserted_shows_
+pub data Step : Type 0 where
+  _gives_asserted_shows_ : Call25 → ℕ → Bool → ℕ → Step
+
+-- the steps are made one after the other, none is refused, and each comes out so
+unfoldable pub Comes : List Step → Tpi → Type 0
+Comes [] v = Unit {0}
+Comes ((c gives byte asserted irq shows air) ∷ steps) v =
+    (Chip25.chip .Typed c)
+    × (answer Chip25.chip c v .refusal ≡ 0)
+    × (answer Chip25.chip c v .«data» ≡ byte)
+    × (answer Chip25.chip c v .irq ≡ irq)
+    × (airOf (next Chip25.chip c v) ≡ air)
+    × Comes steps (next Chip25.chip c v)
+
 -- ---- the 6532
 
 -- the timer's flag after k clocks
@@ -118,15 +140,17 @@ abbrev pub Shows45 : Outcome45 → Crtc → Type 0
 Shows45 (frame-of n clocks) = FrameOf n
 Shows45 (start s row r column c MA x) = Addresses s r c x
 
--- ---- a case of one of the three
+-- ---- a case of one of the four
 
 pub data Case : Type 0 where
   on-6522 : List Call22 → Outcome22 → Case
+  on-6525 : List Call25 → List Step → Case
   on-6532 : List Call32 → Outcome32 → Case
   on-6545 : List Call45 → Outcome45 → Case
 
 -- from power-up the calls lead, none refused, to the outcome
 abbrev pub Holds : Case → Type 0
 Holds (on-6522 calls o) = Leads Chip22.chip (Shows22 o) calls (Chip22.chip .powerUp)
+Holds (on-6525 calls steps) = Leads Chip25.chip (Comes steps) calls (Chip25.chip .powerUp)
 Holds (on-6532 calls o) = Leads Chip32.chip (Shows32 o) calls (Chip32.chip .powerUp)
 Holds (on-6545 calls o) = Leads Chip45.chip (Shows45 o) calls (Chip45.chip .powerUp)

@@ -1,14 +1,16 @@
--- The twelve marked cases, in document 01's order.
-use mathlib.Core.Bool.{false}
+-- The twelve marked cases, in document 01's order, and the three that the catalogue tells of the 6525.
+use mathlib.Core.Bool.{true, false}
 use mathlib.Core.List.{List, [], _∷_, _++_}
 use Prim.Native.Nat.{ℕ, _/_, _%_}
 use Rattle.calls.specs.declared.Call22.{Call22}
 use Rattle.calls.specs.declared.Call22.the-variants as Via
+use Rattle.calls.specs.declared.Call25.{Call25}
+use Rattle.calls.specs.declared.Call25.the-variants as Tpi
 use Rattle.calls.specs.declared.Call32.{Call32}
 use Rattle.calls.specs.declared.Call32.the-variants as Riot
 use Rattle.calls.specs.declared.Call45.{Call45}
 use Rattle.calls.specs.declared.Call45.the-variants as Crtc
-use Rattle.marked.specs.Cases.{Case, on-6522, on-6532, on-6545, T1-flags-at, T1-reloads_forecast_, T2-wraps-unflagged-at, timer-flag-at, frame-of_clocks, start_row_column_MA_}
+use Rattle.marked.specs.Cases.{Case, on-6522, on-6525, on-6532, on-6545, T1-flags-at, T1-reloads_forecast_, T2-wraps-unflagged-at, timer-flag-at, frame-of_clocks, start_row_column_MA_, _gives_asserted_shows_}
 
 -- a timer of the 6522 is loaded by its low and then its high byte: T1 by registers 4 and 5, T2 by 8 and 9
 abbrev pub load1 : ℕ → List Call22
@@ -67,4 +69,53 @@ table =
     ∷ on-6545 (registers ((0, 3) ∷ (4, 1) ∷ (9, 1) ∷ (5, 0) ∷ [])) (frame-of 16 clocks)
     ∷ on-6545 (registers ((1, 2) ∷ (0, 3) ∷ (4, 1) ∷ (9, 1) ∷ []) ++ run45 9) (start 0 row 1 column 1 MA 3)
     ∷ on-6545 (registers ((1, 80) ∷ (0, 99) ∷ (4, 24) ∷ (9, 7) ∷ []) ++ run45 18479) (start 0 row 23 column 79 MA 1919)
+    ∷ []
+
+-- ---- the 6525
+
+-- CR (register 6) for interrupt mode with priority, and a mask (register 5) that lets all inputs through
+abbrev pub with-priority : List Call25
+with-priority = Tpi.Write 6 3 ∷ Tpi.Write 5 31 ∷ []
+
+-- the levels of port C; those of I4 to I0 are in bits 4 to 0, and each falls from 1 to 0
+abbrev pub levels : ℕ → Call25
+levels pc = Tpi.Pins 255 255 pc
+
+-- the active interrupt register is register 7
+abbrev pub read-air : Call25
+read-air = Tpi.Read 7
+
+abbrev pub write-air : Call25
+write-air = Tpi.Write 7 0
+
+-- A: I1 is served, and then it can interrupt again. B: I2 comes while I1 is served, and I1's service goes on when that of I2 has ended: I0 has to
+-- wait for its end. C: I0 comes while I1 is served, and waits.
+unfoldable pub catalogue : List Case
+catalogue =
+    on-6525 with-priority (
+    (levels 0xFD gives 0 asserted true shows 2)
+    ∷ (read-air gives 2 asserted false shows 0)
+    ∷ (write-air gives 0 asserted false shows 0)
+    ∷ (levels 0xFF gives 0 asserted false shows 0)
+    ∷ (levels 0xFD gives 0 asserted true shows 2)
+    ∷ []
+    )
+    ∷ on-6525 with-priority (
+    (levels 0xFD gives 0 asserted true shows 2)
+    ∷ (read-air gives 2 asserted false shows 0)
+    ∷ (levels 0xF9 gives 0 asserted true shows 4)
+    ∷ (read-air gives 4 asserted false shows 0)
+    ∷ (write-air gives 0 asserted false shows 0)
+    ∷ (levels 0xF8 gives 0 asserted false shows 1)
+    ∷ (write-air gives 0 asserted true shows 1)
+    ∷ []
+    )
+    ∷ on-6525 with-priority (
+    (levels 0xFD gives 0 asserted true shows 2)
+    ∷ (read-air gives 2 asserted false shows 0)
+    ∷ (levels 0xFC gives 0 asserted false shows 1)
+    ∷ (write-air gives 0 asserted true shows 1)
+    ∷ (read-air gives 1 asserted false shows 0)
+    ∷ []
+    )
     ∷ []
