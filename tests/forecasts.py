@@ -15,7 +15,7 @@ RUN = re.compile(rb"(22|32)05([0-9A-F]{8})")
 RUN_ANSWER = re.compile(rb"000([01])")
 FORECAST_ANSWER = re.compile(rb"000([01])([0-9A-F]{8})")
 # A run of any chip, what one that tells its turns begins with and is answered, and the longest of these.
-ANY_RUN = re.compile(rb"(2205|3205|4505|4507)([0-9A-F]{8})")
+ANY_RUN = re.compile(rb"(2205|2505|3205|4505|4507)([0-9A-F]{8})")
 TOLD = b"4507"
 TOLD_ANSWER = re.compile(rb"(000[0-9A-F])([0-9A-F]{8})")
 LONGEST_TOLD = 4_294_967_290

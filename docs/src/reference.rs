@@ -1,4 +1,4 @@
-//! Plain reference for the Snowferrule bench: 6522, 6532 and 6545.
+//! Plain reference for the Snowferrule bench: 6522, 6525, 6532 and 6545.
 //!
 //! Reads a session on standard input to its end and writes one answer a line.
 //!
@@ -673,6 +673,205 @@ fn edge_met(code: u8, line: u8, fell: u8, rose: u8) -> bool {
         2 | 3 => rose & line != 0,
         _ => false,
     }
+}
+
+// -------------------------------------------------------------------- 6525
+
+/// Bits of CR. The other four are of the CA and CB outputs, which this bench
+/// leaves out: they are stored and do nothing.
+mod cr {
+    pub const INTERRUPT_MODE: u8 = 0x01;
+    pub const PRIORITY: u8 = 0x02;
+    pub const I3_RISING: u8 = 0x04;
+    pub const I4_RISING: u8 = 0x08;
+}
+
+/// Interrupt inputs. Each has the bit of its line of port C, in the latch, in
+/// the mask and in AIR.
+mod input {
+    pub const I0: u8 = 0x01;
+    pub const I1: u8 = 0x02;
+    pub const I2: u8 = 0x04;
+    pub const I3: u8 = 0x08;
+    pub const I4: u8 = 0x10;
+    pub const ALL: u8 = I4 | I3 | I2 | I1 | I0;
+}
+
+const PC5: u8 = 0x20;
+
+struct Chip6525 {
+    port_a: u8,
+    port_b: u8,
+    port_c: u8,
+    ddr_a: u8,
+    ddr_b: u8,
+    /// In the interrupt mode no direction but the mask: a 1 lets its input through.
+    ddr_c: u8,
+    outside_a: u8,
+    outside_b: u8,
+    outside_c: u8,
+    cr: u8,
+    /// Inputs whose edge came and that AIR has not handed over yet.
+    latch: u8,
+    /// Inputs that a read of AIR handed over and no write of AIR has ended.
+    in_service: u8,
+}
+
+impl Chip6525 {
+    fn power_up() -> Self {
+        let mut chip = Chip6525 {
+            port_a: 0,
+            port_b: 0,
+            port_c: 0,
+            ddr_a: 0,
+            ddr_b: 0,
+            ddr_c: 0,
+            outside_a: 0xFF,
+            outside_b: 0xFF,
+            outside_c: 0xFF,
+            cr: 0,
+            latch: 0,
+            in_service: 0,
+        };
+        chip.reset();
+        chip
+    }
+
+    fn reset(&mut self) {
+        self.port_a = 0;
+        self.port_b = 0;
+        self.port_c = 0;
+        self.ddr_a = 0;
+        self.ddr_b = 0;
+        self.ddr_c = 0;
+        self.cr = 0;
+        self.latch = 0;
+        self.in_service = 0;
+    }
+
+    fn cr_has(&self, bit: u8) -> bool {
+        self.cr & bit != 0
+    }
+
+    /// What AIR shows.
+    fn active(&self) -> u8 {
+        if self.cr_has(cr::INTERRUPT_MODE) {
+            self.first_of(self.latch & self.ddr_c)
+        } else {
+            0
+        }
+    }
+
+    /// Those of some inputs whose turn it is: with priority the highest alone,
+    /// without it all at once.
+    fn first_of(&self, inputs: u8) -> u8 {
+        if self.cr_has(cr::PRIORITY) {
+            highest(inputs)
+        } else {
+            inputs
+        }
+    }
+
+    /// With priority only a higher input interrupts the service of another,
+    /// without it none does. Outside the interrupt mode AIR shows none to begin
+    /// with.
+    fn interrupt(&self) -> bool {
+        if self.cr_has(cr::PRIORITY) {
+            self.active() > highest(self.in_service)
+        } else {
+            self.active() != 0 && self.in_service == 0
+        }
+    }
+
+    fn lines_a(&self) -> u8 {
+        mix(self.ddr_a, self.port_a, self.outside_a)
+    }
+
+    fn lines_b(&self) -> u8 {
+        mix(self.ddr_b, self.port_b, self.outside_b)
+    }
+
+    /// In the interrupt mode the chip drives PC5 alone, low when asserted.
+    fn lines_c(&self) -> u8 {
+        if self.cr_has(cr::INTERRUPT_MODE) {
+            mix(PC5, if self.interrupt() { 0 } else { PC5 }, self.outside_c)
+        } else {
+            mix(self.ddr_c, self.port_c, self.outside_c)
+        }
+    }
+
+    fn read(&mut self, register: u8) -> Checked<u8> {
+        let data = match register {
+            0 => self.lines_a(),
+            1 => self.lines_b(),
+            2 => self.lines_c(),
+            3 => self.ddr_a,
+            4 => self.ddr_b,
+            5 => self.ddr_c,
+            6 => self.cr,
+            7 => {
+                let data = self.active();
+                self.latch &= !data;
+                self.in_service |= data;
+                data
+            }
+            8..=255 => return Err(NO_SUCH_REGISTER),
+        };
+        Ok(data)
+    }
+
+    fn write(&mut self, register: u8, value: u8) -> Checked<()> {
+        match register {
+            0 => self.port_a = value,
+            1 => self.port_b = value,
+            // A 0 clears its input's latch; a 1 sets none.
+            2 if self.cr_has(cr::INTERRUPT_MODE) => self.latch &= value,
+            2 => self.port_c = value,
+            3 => self.ddr_a = value,
+            4 => self.ddr_b = value,
+            5 => self.ddr_c = value,
+            6 => self.cr = value,
+            // The byte does not matter.
+            7 if self.cr_has(cr::INTERRUPT_MODE) => {
+                self.in_service &= !self.first_of(self.in_service);
+            }
+            7 => {}
+            8..=255 => return Err(NO_SUCH_REGISTER),
+        }
+        Ok(())
+    }
+
+    /// Outside levels alone make the edges, and the mask keeps none from the latch.
+    fn pins(&mut self, a: u8, b: u8, c: u8) {
+        if self.cr_has(cr::INTERRUPT_MODE) {
+            let fell = self.outside_c & !c;
+            let rose = c & !self.outside_c;
+            self.latch |= mix(self.rising(), rose, fell) & input::ALL;
+        }
+        self.outside_a = a;
+        self.outside_b = b;
+        self.outside_c = c;
+    }
+
+    /// The inputs that wait for a rise. I2, I1 and I0 always wait for a fall.
+    fn rising(&self) -> u8 {
+        let mut inputs = 0;
+        if self.cr_has(cr::I4_RISING) {
+            inputs |= input::I4;
+        }
+        if self.cr_has(cr::I3_RISING) {
+            inputs |= input::I3;
+        }
+        inputs
+    }
+}
+
+/// The highest of some inputs, alone; 0 if there is none.
+fn highest(inputs: u8) -> u8 {
+    [input::I4, input::I3, input::I2, input::I1, input::I0]
+        .into_iter()
+        .find(|input| inputs & input != 0)
+        .unwrap_or(0)
 }
 
 // -------------------------------------------------------------------- 6532
@@ -1361,6 +1560,7 @@ enum Reply {
 
 struct Bench {
     chip_6522: Chip6522,
+    chip_6525: Chip6525,
     chip_6532: Chip6532,
     chip_6545: Chip6545,
     by_clocks: bool,
@@ -1370,6 +1570,7 @@ impl Bench {
     fn power_up(by_clocks: bool) -> Self {
         Bench {
             chip_6522: Chip6522::power_up(),
+            chip_6525: Chip6525::power_up(),
             chip_6532: Chip6532::power_up(),
             chip_6545: Chip6545::power_up(),
             by_clocks,
@@ -1405,6 +1606,10 @@ impl Bench {
                 let reply = self.call_6522(call)?;
                 Ok((u8::from(self.chip_6522.interrupt()), reply))
             }
+            [0x25, call @ ..] => {
+                let reply = self.call_6525(call)?;
+                Ok((u8::from(self.chip_6525.interrupt()), reply))
+            }
             [0x32, call @ ..] => {
                 let reply = self.call_6532(call)?;
                 Ok((u8::from(self.chip_6532.interrupt()), reply))
@@ -1439,6 +1644,20 @@ impl Bench {
             }
             [0x06] if self.by_clocks => return Ok(Reply::Forecast(chip.forecast_by_looking())),
             [0x06] => return Ok(Reply::Forecast(chip.forecast())),
+            _ => return Err(NOT_A_FRAME),
+        }
+        Ok(Reply::Nothing)
+    }
+
+    fn call_6525(&mut self, call: &[u8]) -> Checked<Reply> {
+        let chip = &mut self.chip_6525;
+        match *call {
+            [0x01] => chip.reset(),
+            [0x02, register, value] => chip.write(register, value)?,
+            [0x03, register] => return Ok(Reply::Data(chip.read(register)?)),
+            [0x04, a, b, c] => chip.pins(a, b, c),
+            // A clock changes nothing in this chip, so no number of them does.
+            [0x05, _, _, _, _] => {}
             _ => return Err(NOT_A_FRAME),
         }
         Ok(Reply::Nothing)

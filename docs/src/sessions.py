@@ -1,7 +1,7 @@
 #!/usr/bin/env python3
 """Seeded session generator for the Snowferrule bench.
 
-    sessions.py SEED LINES [--max-run N] [--chip 22|32|45] [--hostile PERCENT]
+    sessions.py SEED LINES [--max-run N] [--chip 22|25|32|45] [--hostile PERCENT]
 
 Writes a session of LINES lines to standard output. The same arguments always
 give the same bytes. --max-run bounds the counts of all runs that are accepted,
@@ -10,10 +10,10 @@ up to 4,294,967,295.
 
 Each chip is a story told in phases: set the chip up for something, then poke
 around the clocks and levels where that something happens. To aim at them a
-story keeps a rough idea of when a timer or a shifted byte is due, and of where
-the screen stands. It's only an aim: were it wrong, the sessions would be duller,
-never invalid. The stories are interleaved in bursts, with hostile lines thrown
-in.
+story keeps a rough idea of when a timer or a shifted byte is due, of what is
+latched and in service, and of where the screen stands. It's only an aim: were
+it wrong, the sessions would be duller, never invalid. The stories are
+interleaved in bursts, with hostile lines thrown in.
 """
 
 import argparse
@@ -21,6 +21,7 @@ import random
 import sys
 
 HIGHEST_COUNT = 0xFFFFFFFF
+EVERY_CHIP = ("22", "25", "32", "45")
 
 
 class Story:
@@ -916,6 +917,482 @@ class Story22(Story):
                 yield self.refused()
 
 
+class Story25(Story):
+    chip = 0x25
+    # Bits of CR: the interrupt mode, priority, and rising edges of I3 and I4.
+    MODE, PRIORITY, RISING = 0x01, 0x02, 0x0C
+    INPUTS = 0x1F
+
+    def __init__(self, rng, max_run):
+        super().__init__(rng, max_run)
+        self.pa = self.pb = self.pc = 255
+        self.cr = self.mask = self.latch = self.served = 0
+
+    def phases(self):
+        return ((self.priority_phase, 30), (self.together_phase, 17), (self.mask_phase, 13), (self.switch_phase, 14),
+                (self.edge_phase, 16), (self.port_phase, 18), (self.noise_phase, 9))
+
+    # Calls that keep the aim up to date.
+
+    def reset(self):
+        self.cr = self.mask = self.latch = self.served = 0
+        return super().reset()
+
+    def write(self, address, value):
+        if address == 5:
+            self.mask = value & self.INPUTS
+        elif address == 6:
+            self.cr = value
+        elif address == 2 and self.interrupting():
+            self.latch &= value
+        elif address == 7 and self.interrupting():
+            self.served &= ~self.highest(self.served) if self.cr & self.PRIORITY else 0
+        return super().write(address, value)
+
+    def read(self, address):
+        if address == 7:
+            shown = self.active()
+            self.latch &= ~shown
+            self.served |= shown
+        return super().read(address)
+
+    def pins(self, levels):
+        """Port C moved to these levels, and what that latches."""
+        if self.interrupting():
+            self.latch |= (self.pc ^ levels) & ~(levels ^ self.rising()) & self.INPUTS
+        self.pc = levels
+        return self.frame(4, self.pa, self.pb, levels)
+
+    def run(self):
+        """A clock changes nothing in this chip."""
+        return self.run_line(self.bounded(draw(self.rng, (
+            (20, 0), (30, 1), (25, self.rng.randrange(20)), (10, self.rng.randrange(70_000)), (15, self.huge()),
+        ))))
+
+    def interrupting(self):
+        return bool(self.cr & self.MODE)
+
+    def rising(self):
+        """The inputs whose rising edges are looked for."""
+        return (self.cr & self.RISING) << 1
+
+    def highest(self, inputs):
+        return 1 << inputs.bit_length() - 1 if inputs else 0
+
+    def active(self):
+        """What AIR shows."""
+        inputs = self.latch & self.mask if self.interrupting() else 0
+        return self.highest(inputs) if self.cr & self.PRIORITY else inputs
+
+    def asserted(self):
+        if self.cr & self.PRIORITY:
+            return self.active() > self.served
+        return self.active() != 0 and self.served == 0
+
+    # What the phases are made of.
+
+    def look(self):
+        """Something that changes nothing: PRC for the most part, for it shows the interrupt pin."""
+        register = draw(self.rng, ((46, 2), (9, 6), (9, 5), (7, 0), (7, 1), (4, 3), (4, 4), (14, None)))
+        return self.run() if register is None else self.read(register)
+
+    def looks(self, percent=70):
+        while self.chance(percent):
+            yield self.look()
+            percent //= 3
+
+    def any_cr(self, bits=0x0F, fixed=0):
+        """Any of these bits of CR beside the fixed ones, and CA's and CB's as they come."""
+        return self.rng.randrange(256) & (0xF0 | bits) | fixed
+
+    def set_cr(self, value):
+        """CR with other bits for CA and CB now and then, which do nothing."""
+        return self.write(6, value ^ (self.rng.randrange(16) << 4 if self.chance(40) else 0))
+
+    def set_mask(self, inputs):
+        """The mask, below any three bits of DDRC."""
+        return self.write(5, inputs | self.rng.randrange(8) << 5)
+
+    def any_mask(self):
+        rng = self.rng
+        one = 1 << rng.randrange(5)
+        return draw(rng, ((40, 31), (8, 0), (16, 31 ^ one), (8, one), (28, rng.randrange(32))))
+
+    def one_of(self, inputs):
+        """One of these inputs, seldom more of them; any where there are none."""
+        rng = self.rng
+        some = [1 << place for place in range(5) if inputs >> place & 1]
+        if not some:
+            return 1 << rng.randrange(5)
+        return rng.choice(some) | (rng.randrange(32) & inputs if self.chance(12) else 0)
+
+    def above(self):
+        """The inputs that nothing in service holds back with priority on."""
+        return self.INPUTS >> self.served.bit_length() << self.served.bit_length()
+
+    def strike(self, inputs):
+        """The edges of these inputs that are looked for, after the other ones where they have to come first."""
+        rng = self.rng
+        back = inputs & ~(self.pc ^ self.rising())
+        if back:
+            yield self.pins(self.pc ^ back)
+        if self.chance(20):
+            self.pa, self.pb = self.byte(), self.byte()
+        levels = self.pc & ~inputs | self.rising() & inputs
+        if self.chance(20):
+            levels ^= rng.randrange(8) << 5
+        yield self.pins(levels)
+
+    def set_up(self, cr, mask):
+        """CR and the mask, in either order, sometimes from a reset or with nothing latched or in service."""
+        rng = self.rng
+        if self.chance(12):
+            yield self.reset()
+        settings = [(self.set_cr, cr), (self.set_mask, mask)]
+        rng.shuffle(settings)
+        for setting, value in settings:
+            yield setting(value)
+        if self.chance(50):
+            yield from self.settle()
+
+    def settle(self):
+        """Latch and service emptied as firmware would."""
+        if self.latch or self.chance(20):
+            yield self.write(2, self.rng.choice((0, 0, 0xE0, 0x20)))
+        while self.served and self.interrupting():
+            yield self.write(7, self.byte())
+
+    def answer(self, percent=85):
+        """AIR read where the interrupt asks for it, for the most part."""
+        if self.asserted() and self.chance(percent):
+            yield self.read(7)
+            yield from self.looks(40)
+
+    def higher(self):
+        yield from self.strike(self.one_of(self.above()))
+        yield from self.looks(30)
+        yield from self.answer()
+
+    def same(self):
+        """An input that is in service comes again."""
+        yield from self.strike(self.one_of(self.served))
+        yield from self.looks(50)
+        yield from self.answer()
+
+    def lower(self):
+        """An input that is held back, most often one that is not in service itself."""
+        yield from self.strike(self.one_of(self.INPUTS & ~self.above() & ~self.served or self.INPUTS & ~self.above()))
+        yield from self.looks(50)
+        yield from self.answer()
+
+    def several(self):
+        yield from self.strike(self.rng.randrange(1, 32))
+        yield from self.looks(40)
+        yield from self.answer()
+
+    def end(self):
+        """AIR written, and what waited for that."""
+        yield self.write(7, self.byte())
+        yield from self.looks(60)
+        yield from self.answer(70)
+
+    def end_all(self):
+        """AIR written again and again, once too often now and then."""
+        for _ in range(bin(self.served).count("1") + self.rng.choice((0, 0, 0, 1, 2))):
+            yield from self.end()
+
+    def nest(self):
+        """Services one in another, two to five deep, with lower inputs that wait, and then their ends."""
+        rng = self.rng
+        if self.chance(80):
+            yield from self.settle()
+        for place in sorted(rng.sample(range(5), rng.choice((2, 2, 2, 3, 3, 4, 5)))):
+            yield from self.strike(1 << place)
+            yield from self.looks(20)
+            if self.asserted() or self.chance(10):
+                yield self.read(7)
+                yield from self.looks(20)
+            if self.chance(25):
+                yield from self.lower()
+            elif self.chance(15):
+                yield from self.same()
+        if self.chance(85):
+            yield from self.end_all()
+
+    def extra_read(self):
+        """AIR read without being asked, twice or thrice at times."""
+        for _ in range(self.rng.choice((1, 1, 2, 3))):
+            yield self.read(7)
+        yield from self.looks(40)
+
+    def extra_write(self):
+        yield self.write(7, self.byte())
+        yield from self.looks(40)
+
+    def show_latch(self):
+        """Everything unmasked, and AIR read until it shows no more."""
+        yield self.set_mask(31)
+        for _ in range(6):
+            yield self.read(7)
+            if not self.active() and self.chance(60):
+                break
+
+    def show_served(self):
+        """Inputs from the lowest up, until one interrupts: that is the first above those in service."""
+        for place in range(5):
+            yield from self.strike(1 << place)
+            if self.asserted():
+                break
+        yield from self.answer()
+
+    def unwind(self):
+        """Services ended from the highest down, with an input of them that comes alone and waits for its own end."""
+        while self.served and self.interrupting():
+            if self.latch and self.chance(75):
+                yield self.write(2, 0)
+            yield from self.strike(self.rng.choice((self.highest(self.served), self.served & -self.served)))
+            yield self.write(7, self.byte())
+            yield from self.looks(30)
+
+    def remask(self):
+        yield self.set_mask(self.any_mask())
+        yield from self.looks(60)
+        yield from self.answer(50)
+
+    def mask_served(self):
+        """What is in service masked, and an input beside it."""
+        yield self.set_mask(self.INPUTS & ~(self.served or self.one_of(self.INPUTS)))
+        yield from self.strike(self.one_of(self.mask))
+        yield from self.looks(50)
+        yield from self.answer(60)
+
+    def hide(self):
+        """Masked inputs that come, and are unmasked later."""
+        hidden = self.rng.randrange(1, 32)
+        yield self.set_mask(self.any_mask() & ~hidden)
+        yield from self.strike(hidden)
+        yield from self.looks(30)
+        if self.chance(30):
+            yield self.read(7)
+        if self.chance(30):
+            yield from self.end()
+        yield self.set_mask(self.mask | self.rng.choice((hidden, hidden, self.one_of(hidden), 31)))
+        yield from self.looks(50)
+        yield from self.answer()
+
+    def clear_some(self):
+        """PRC written: zeros take latched inputs away, ones over others set none."""
+        rng = self.rng
+        if self.chance(60):
+            yield from self.strike(rng.randrange(1, 32))
+        kept = draw(rng, ((40, rng.randrange(32)), (15, ~self.latch & 31), (15, ~self.highest(self.latch) & 31),
+                          (10, self.one_of(self.latch)), (10, 31), (10, 0)))
+        yield self.write(2, kept | rng.randrange(8) << 5)
+        yield from self.looks(50)
+        if self.chance(35):
+            yield from self.show_latch()
+        else:
+            yield from self.answer(60)
+
+    def switch_priority(self):
+        yield self.set_cr(self.cr ^ self.PRIORITY)
+        yield from self.looks(60)
+        yield from self.unwind() if self.chance(30) else self.answer(50)
+
+    def switch_edges(self):
+        """Other edges of I4 and I3 from now on; the levels make none."""
+        yield self.set_cr(self.cr ^ self.rng.choice((0x04, 0x08, 0x0C)))
+        yield from self.looks(50)
+        if self.chance(50):
+            yield self.pins(self.pc ^ self.rng.choice((0x08, 0x10, 0x18)))
+
+    def switch_mode(self):
+        """Port C is a port for a while, and latch and service stay as they are."""
+        rng = self.rng
+        yield self.set_cr(self.cr & ~self.MODE)
+        for _ in range(rng.randrange(6)):
+            yield from draw(rng, (
+                (18, self.extra_read), (18, self.extra_write), (18, self.move), (12, self.write_c), (8, self.remask),
+                (5, self.switch_priority), (5, self.switch_edges), (16, self.looks),
+            ))()
+        yield self.set_cr(self.cr | self.MODE)
+        yield from self.looks(70)
+        yield from draw(rng, (
+            (26, self.answer), (20, self.show_latch), (16, self.show_served), (16, self.end_all), (16, self.unwind),
+            (6, self.looks),
+        ))()
+
+    def write_c(self):
+        yield self.write(2, self.byte())
+        yield from self.looks(60)
+
+    def move(self):
+        """Levels moved either way, one or several of them, or none."""
+        rng = self.rng
+        if self.chance(30):
+            self.pa, self.pb = self.byte(), self.byte()
+        yield self.pins(self.pc ^ draw(rng, (
+            (40, 1 << rng.randrange(5)), (12, 0), (20, rng.randrange(32)), (20, rng.randrange(256)), (8, 31),
+        )))
+        yield from self.looks(40)
+
+    def break_off(self):
+        """A reset in the midst of it, and nothing may be left when the mode is on again."""
+        rng = self.rng
+        cr, mask = self.cr, self.mask
+        yield self.reset()
+        yield from self.looks(50)
+        if self.chance(85):
+            yield self.set_cr(cr | self.MODE)
+            yield self.set_mask(rng.choice((mask, 31)))
+            yield from self.looks(40)
+            yield from draw(rng, ((40, self.show_served), (30, self.extra_read), (15, self.end), (15, self.nest)))()
+
+    def touch_port(self):
+        """An output byte or a direction of port A or B."""
+        rng = self.rng
+        register = rng.choice((0, 0, 1, 1, 3, 4))
+        yield self.write(register, self.byte())
+        yield self.read(rng.choice((register, 0, 1)))
+        if self.chance(50):
+            # Neither drives PC7 or PC6, whatever CR says of CB and CA.
+            yield self.read(2)
+
+    def refused(self):
+        rng = self.rng
+        high = rng.choice((8, 8, 8, 9, 15, 16, 128, 255, 255, rng.randrange(8, 256)))
+        if self.chance(40):
+            yield from self.strike(self.one_of(self.above() & self.mask))
+        yield draw(rng, (
+            (28, self.frame(3, high)), (28, self.frame(2, high, self.byte())), (12, self.forecast()),
+            (12, self.frame(7, *rng.randrange(300).to_bytes(4, "big"))), (10, self.frame(4, self.byte(), self.byte())),
+            (10, self.frame(4, *(self.byte() for _ in range(4)))),
+        ))
+        yield from self.looks(30)
+
+    # Phases.
+
+    def power_up_phase(self):
+        """Look at everything before anything is written."""
+        rng = self.rng
+        registers = list(range(8))
+        rng.shuffle(registers)
+        for register in registers:
+            yield self.read(register)
+        if self.chance(85):
+            # Output bytes that nobody has written.
+            for register in (3, 4, 5):
+                yield self.write(register, 255)
+            yield from (self.read(register) for register in (0, 1, 2))
+        # All inputs fall, from levels that were high from the start; sometimes once before the mode is on.
+        if self.chance(40):
+            yield self.pins(self.byte() & 0xE0)
+        yield self.write(6, self.any_cr(0x02, self.MODE))
+        yield self.set_mask(31)
+        yield from self.strike(31)
+        yield from self.show_latch()
+
+    def priority_phase(self):
+        """Priority on: what is higher interrupts a service, what is not waits for its end."""
+        rng = self.rng
+        yield from self.set_up(self.any_cr(0x0C, self.MODE | self.PRIORITY), rng.choice((31, 31, 31, self.any_mask())))
+        for _ in range(rng.randrange(5, 25)):
+            yield from draw(rng, (
+                (22, self.nest), (16, self.higher), (12, self.lower), (7, self.same), (10, self.several),
+                (12, self.end), (5, self.end_all), (4, self.extra_read), (4, self.extra_write), (3, self.remask),
+                (3, self.mask_served), (6, self.clear_some), (3, self.switch_priority), (2, self.switch_mode),
+                (2, self.show_served), (3, self.unwind), (2, self.move), (1, self.break_off), (4, self.touch_port),
+                (2, self.refused), (2, self.looks),
+            ))()
+
+    def together_phase(self):
+        """Priority off: all that is latched shows at once, and nothing interrupts while anything is in service."""
+        rng = self.rng
+        yield from self.set_up(self.any_cr(0x0C, self.MODE), rng.choice((31, 31, self.any_mask())))
+        for _ in range(rng.randrange(5, 25)):
+            yield from draw(rng, (
+                (30, self.several), (14, self.higher), (12, self.lower), (8, self.same), (20, self.end),
+                (5, self.extra_read), (5, self.extra_write), (6, self.remask), (4, self.mask_served),
+                (8, self.clear_some), (6, self.switch_priority), (3, self.switch_mode), (2, self.move),
+                (1, self.break_off), (4, self.touch_port), (2, self.refused),
+            ))()
+
+    def mask_phase(self):
+        """Masked inputs are latched all the same, and show once they are unmasked."""
+        rng = self.rng
+        yield from self.set_up(self.any_cr(0x0E, self.MODE), self.any_mask())
+        for _ in range(rng.randrange(4, 16)):
+            yield from draw(rng, (
+                (30, self.hide), (20, self.remask), (16, self.mask_served), (12, self.several), (10, self.clear_some),
+                (6, self.end), (6, self.show_latch), (4, self.higher), (3, self.extra_read), (2, self.switch_mode),
+                (1, self.break_off), (2, self.refused),
+            ))()
+
+    def switch_phase(self):
+        """CR written with inputs latched and in service: they stay, whatever it says."""
+        rng = self.rng
+        yield from self.set_up(self.any_cr(0x0E, self.MODE), rng.choice((31, self.any_mask())))
+        for _ in range(rng.randrange(4, 16)):
+            if self.chance(60):
+                yield from rng.choice((self.several, self.nest, self.higher, self.lower))()
+            yield from draw(rng, (
+                (30, self.switch_priority), (30, self.switch_mode), (12, self.switch_edges), (8, self.break_off),
+                (8, self.end_all), (6, self.show_served), (6, self.show_latch), (6, self.unwind),
+            ))()
+
+    def edge_phase(self):
+        """Levels up and down, one by one and many at once, and what is latched of them."""
+        rng = self.rng
+        yield from self.set_up(self.any_cr(0x0E, self.MODE), rng.choice((31, 31, self.any_mask())))
+        for _ in range(rng.randrange(8, 40)):
+            yield from draw(rng, (
+                (50, self.move), (10, self.answer), (8, self.end), (10, self.show_latch), (7, self.switch_edges),
+                (6, self.clear_some), (3, self.switch_mode), (3, self.extra_read), (2, self.remask),
+                (1, self.break_off), (2, self.touch_port), (2, self.refused),
+            ))()
+
+    def port_phase(self):
+        """Three ports, or two and the lines of port C in interrupt mode."""
+        rng = self.rng
+        yield self.set_cr(self.any_cr(0x0E, rng.choice((0, 0, self.MODE))))
+        for _ in range(rng.randrange(8, 40)):
+            kind = rng.random()
+            if kind < 0.34:
+                yield self.write(rng.choice((0, 1, 2, 2, 3, 4, 5, 5)), self.byte())
+            elif kind < 0.70:
+                yield self.read(rng.choice((0, 1, 2, 2, 2, 3, 4, 5)))
+            elif kind < 0.88:
+                self.pa, self.pb = rng.randrange(256), rng.randrange(256)
+                yield self.pins(rng.randrange(256))
+            elif kind < 0.94:
+                yield self.write(6, self.any_cr())
+                yield self.read(6)
+            elif kind < 0.96:
+                yield self.run()
+            elif kind < 0.98:
+                yield self.reset()
+            else:
+                yield from self.refused()
+
+    def noise_phase(self):
+        rng = self.rng
+        for _ in range(rng.randrange(8, 50)):
+            kind = rng.random()
+            if kind < 0.36:
+                yield self.write(rng.randrange(8), rng.randrange(256))
+            elif kind < 0.68:
+                yield self.read(rng.randrange(8))
+            elif kind < 0.90:
+                self.pa, self.pb = rng.randrange(256), rng.randrange(256)
+                yield self.pins(rng.randrange(256))
+            elif kind < 0.95:
+                yield self.run()
+            elif kind < 0.97:
+                yield self.reset()
+            else:
+                yield from self.refused()
+
+
 class Story32(Story):
     chip = 0x32
 
@@ -1645,19 +2122,36 @@ class Story45(Story):
 
 
 class Hostile:
-    """Lines that are no frame, or nearly none."""
+    """Lines that are no frame, or nearly none.
 
-    def __init__(self, rng):
+    Those of the 6525 come only where its story is told, so sessions of another chip alone are as they were before it.
+    """
+
+    def __init__(self, rng, chips):
         self.rng = rng
-
-    def good(self):
-        """A frame that would be accepted, to be spoilt."""
-        rng = self.rng
-        return rng.choice((
+        self.frames = (
             b"2201", b"2202040A", b"220305", b"22045A3C07", b"220500000010", b"2206",
             b"3201", b"32029C02", b"320384", b"3204FF00", b"32050000000A", b"3206",
             b"4501", b"4502010F", b"450301", b"450401", b"450500000007", b"45070000000C",
-        ))
+        )
+        self.near_frames = (
+            b"4506", b"4507", b"2207", b"3200", b"2200", b"22", b"32", b"45", b"2",
+            b"22060", b"220600", b"450600000000", b"220100", b"3201FF", b"450100",
+            b"45040100", b"3204FFFF0F", b"2204FFFF", b"220500000001FF",
+            b"22050001", b"32050000000", b"+22206", b"0x2206", b"-2206", b"\xc3\xa42206",
+        )
+        self.chips = (b"00", b"25", b"21", b"23", b"31", b"33", b"44", b"46", b"FF")
+        self.other = {b"22": b"32", b"32": b"45", b"45": b"22"}
+        if "25" in chips:
+            self.frames += (b"2501", b"25020603", b"2502051F", b"250307", b"2504FFFFE0", b"25050000000D")
+            self.near_frames += (b"2506", b"250700000001", b"2500", b"25", b"250100", b"2504FFFF", b"2504FFFFE00F",
+                                 b"25030207", b"250206", b"25050001", b"250F", b"25020A0B0C")
+            self.chips += (b"24", b"26", b"52", b"A5")
+            self.other = {b"22": b"25", b"25": b"32", b"32": b"45", b"45": b"22"}
+
+    def good(self):
+        """A frame that would be accepted, to be spoilt."""
+        return self.rng.choice(self.frames)
 
     def digits(self, count):
         return bytes(self.rng.choice(b"0123456789ABCDEF") for _ in range(count))
@@ -1694,19 +2188,14 @@ class Hostile:
         if kind == 11:
             return rng.choice((b" ", b"")) + good + rng.choice((b" ", b"\t", b"\x00"))
         if kind == 12:
-            chip = rng.choice((b"00", b"25", b"21", b"23", b"31", b"33", b"44", b"46", b"FF", self.digits(2)))
-            return chip + good[2:]
+            return rng.choice((*self.chips, self.digits(2))) + good[2:]
         if kind == 13:
             call = rng.choice((b"00", b"07", b"08", b"10", b"11", b"81", b"FF"))
             return good[:2] + call + good[4:]
         if kind == 14:
-            return rng.choice((b"4506", b"4507", b"2207", b"3200", b"2200", b"22", b"32", b"45", b"2",
-                               b"22060", b"220600", b"450600000000", b"220100", b"3201FF", b"450100",
-                               b"45040100", b"3204FFFF0F", b"2204FFFF", b"220500000001FF",
-                               b"22050001", b"32050000000", b"+22206", b"0x2206", b"-2206", b"\xc3\xa42206"))
+            return rng.choice(self.near_frames)
         if kind == 15:
-            swapped = {b"22": b"32", b"32": b"45", b"45": b"22"}[good[:2]]
-            return swapped + good[2:]
+            return self.other[good[:2]] + good[2:]
         if kind == 16:
             return bytes(rng.choice([byte for byte in range(256) if byte != 10])
                          for _ in range(rng.randrange(1, 40)))
@@ -1717,12 +2206,12 @@ class Hostile:
 
 def session(seed, count, max_run, chips, hostile):
     rng = random.Random(seed)
-    makers = {"22": Story22, "32": Story32, "45": Story45}
-    weights = {"22": 40, "32": 25, "45": 35}
+    makers = {"22": Story22, "25": Story25, "32": Story32, "45": Story45}
+    weights = {"22": 40, "25": 25, "32": 25, "45": 35}
     stories = [makers[chip](random.Random(f"{seed} {chip}"), max_run) for chip in chips]
     tellings = [story.lines() for story in stories]
     shares = [weights[chip] for chip in chips]
-    spoiler = Hostile(random.Random(f"{seed} hostile"))
+    spoiler = Hostile(random.Random(f"{seed} hostile"), chips)
     left = 0
     telling = None
     for _ in range(count):
@@ -1742,11 +2231,11 @@ def main():
     parser.add_argument("lines", type=int)
     parser.add_argument("--max-run", type=int, default=HIGHEST_COUNT, metavar="N",
                         help="bound for the counts of runs (default 4294967295)")
-    parser.add_argument("--chip", choices=("22", "32", "45"), help="tell this chip's story alone")
+    parser.add_argument("--chip", choices=EVERY_CHIP, help="tell this chip's story alone")
     parser.add_argument("--hostile", type=float, default=4, metavar="PERCENT",
                         help="share of hostile lines (default 4)")
     given = parser.parse_args()
-    chips = (given.chip,) if given.chip else ("22", "32", "45")
+    chips = (given.chip,) if given.chip else EVERY_CHIP
     write = sys.stdout.buffer.write
     line = None
     for following in session(given.seed, given.lines, given.max_run, chips, given.hostile):

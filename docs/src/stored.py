@@ -8,11 +8,12 @@ same bytes come out each time. The session begins with document 01's worked
 one and goes on rule by rule: every kind of frame, every refusal with each of
 its causes, what is easy to get wrong, the twelve marked cases, lines that are
 no frame, each register of each chip, serial shifting, what each read cleared,
-a screen's turns and long runs, forecasts across runs, the longest runs. After a
-call that changes something come calls that show it, for a bench that gets the
-rule wrong has to answer one of them differently. The last 30,000 lines are made
-by sessions.py; they reach other states, and make the session ten times as long
-as the program's buffer, so that a program that stops reading is found.
+the 6525's inputs, latch and services, a screen's turns and long runs, forecasts
+across runs, the longest runs. After a call that changes something come calls
+that show it, for a bench that gets the rule wrong has to answer one of them
+differently. The last 30,000 lines are made by sessions.py; they reach other
+states, and make the session ten times as long as the program's buffer, so that
+a program that stops reading is found.
 
 The longest runs are few: the reference also answers this session one clock at
 a time, and each such run of the 6522 or the 6545 takes it some ten seconds.
@@ -23,7 +24,7 @@ import sys
 sys.dont_write_bytecode = True
 import sessions  # noqa: E402 (no cache of it is to be left in docs/src)
 
-VIA, RIOT, CRTC = 0x22, 0x32, 0x45
+VIA, TPI, RIOT, CRTC = 0x22, 0x25, 0x32, 0x45
 LONGEST = 0xFFFFFFFF
 # The longest run of the 6545 that tells its turns.
 LONGEST_TOLD = 4_294_967_290
@@ -123,6 +124,38 @@ def pulses(*levels):
         yield from (serial(0, 1 - level), serial(1, level))
 
 
+# The 6525's registers, and bits of its CR: interrupt mode, priority, rising edges of I3 and of I4. All five inputs.
+PRA, PRB, PRC, DIR_A, DIR_B, MASK, CR, AIR = range(8)
+MODE, PRIORITY, RISING_3, RISING_4 = 0x01, 0x02, 0x04, 0x08
+INPUTS = 0x1F
+
+
+def clean_tpi(cr=MODE | PRIORITY, mask=INPUTS):
+    """The 6525 after a reset with all outside levels high, nothing latched or in service, and these modes."""
+    yield from (reset(TPI), pins(TPI, 0xFF, 0xFF, 0xFF), write(TPI, MASK, mask), write(TPI, CR, cr))
+
+
+def port_c(levels):
+    """Pins with port C at these levels, and everything else high."""
+    return pins(TPI, 0xFF, 0xFF, levels)
+
+
+def falls(*inputs):
+    """One input after the other down and up again, several together where they are given as a sum."""
+    for each in inputs:
+        yield from (port_c(0xFF & ~each), port_c(0xFF))
+
+
+def ended():
+    """AIR written, which ends a service, and the interrupt pin after it."""
+    return [write(TPI, AIR, 0), read(TPI, PRC)]
+
+
+def look_tpi():
+    """Everything that can be seen of the 6525 without touching an input."""
+    return reads(TPI, PRA, PRB, PRC, DIR_A, DIR_B, MASK, CR)
+
+
 # The 6532's I/O addresses.
 TIMER, TIMER_ON, FLAGS = 0x84, 0x8C, 0x85
 
@@ -185,10 +218,14 @@ def as_they_come():
     yield from (read(CRTC, 0), read(CRTC, 1))
     yield from read_crtc(*range(32))
     yield from clocks(CRTC, 3, read(CRTC, 0))
+    # Of the 6525 also the output bytes, and that nothing is latched or in service: the lowest input interrupts.
+    yield from reads(TPI, *range(8))
+    yield from (*(write(TPI, direction, 0xFF) for direction in (DIR_A, DIR_B, MASK)), *reads(TPI, PRA, PRB, PRC))
+    yield from (write(TPI, CR, MODE | PRIORITY), *reads(TPI, PRC, AIR), port_c(0xFE), *reads(TPI, PRC, AIR, PRC))
 
 
 def every_frame():
-    for chip, levels in ((VIA, (0x5A, 0xC3, 0x0A)), (RIOT, (0x3C, 0xA5)), (CRTC, (1,))):
+    for chip, levels in ((VIA, (0x5A, 0xC3, 0x0A)), (TPI, (0x3C, 0xA5, 0x99)), (RIOT, (0x3C, 0xA5)), (CRTC, (1,))):
         yield from (write(chip, 1, 0x0F), read(chip, 1), pins(chip, *levels), read(chip, 0), run(chip, 0),
                     run(chip, 1), run(chip, 200), forecast(chip), reset(chip), read(chip, 1), read(chip, 0))
     yield from (told(0), told(1), told(200))
@@ -209,6 +246,15 @@ def resets():
     yield from (reset(RIOT), forecast(RIOT), *reads(RIOT, 0x80, 0x81, 0x82, 0x83, FLAGS))
     yield from (write(RIOT, 0x81, 0xFF), write(RIOT, 0x83, 0xFF), *reads(RIOT, 0x80, 0x82), pins(RIOT, 0x7F, 0xAA),
                 forecast(RIOT), read(RIOT, FLAGS), pins(RIOT, 0xFF, 0xAA), read(RIOT, FLAGS), read(RIOT, TIMER_ON))
+    # The 6525 with I3 in service and all inputs latched, some of them low: its levels stay, and make no edge.
+    yield from (*clean_tpi(cr=0), *(write(TPI, register, 0xFF) for register in (PRA, PRB, PRC, DIR_A, DIR_B, MASK)),
+                write(TPI, CR, 0xF3), *falls(8), read(TPI, AIR), port_c(0xE0), pins(TPI, 0x12, 0x34, 0x55), read(TPI, PRC))
+    yield from (reset(TPI), *look_tpi(), write(TPI, MASK, INPUTS), write(TPI, CR, MODE | PRIORITY), *reads(TPI, PRC, AIR),
+                pins(TPI, 0x12, 0x34, 0x55), read(TPI, AIR), pins(TPI, 0x12, 0x34, 0x54), *reads(TPI, AIR, PRC), reset(TPI),
+                *(write(TPI, direction, 0xFF) for direction in (DIR_A, DIR_B, MASK)), *reads(TPI, PRA, PRB, PRC))
+    # With the mode off as well.
+    yield from (*clean_tpi(), *falls(5), read(TPI, AIR), write(TPI, CR, 0), reset(TPI), write(TPI, MASK, INPUTS),
+                write(TPI, CR, MODE), read(TPI, AIR), *falls(1))
     yield from screen(r0=3, r1=4, r2=1, r3=0x2F, r4=1, r5=2, r6=2, r7=0, r8=0x30, r9=1, r11=31, r12=0x12, r13=0x34)
     yield from (run(CRTC, 18), *pen_address(), pins(CRTC, 0), pins(CRTC, 1), run(CRTC, 1), pins(CRTC, 0), pins(CRTC, 1),
                 *set_crtc(13, 0x40), reset(CRTC), read(CRTC, 0), run(CRTC, 1), read(CRTC, 0), *read_crtc(16, 17),
@@ -219,12 +265,13 @@ def resets():
 
 def no_frames():
     """Refusal 2: every chip and call with every number of operands (the right one too)."""
-    for chip in (VIA, RIOT, CRTC):
+    for chip in (VIA, TPI, RIOT, CRTC):
         for call in (0, 1, 2, 3, 4, 5, 6, 7, 8, 0x10, 0x81, 0xFF):
             for operands in range(8):
                 yield frame(chip, call, *(0, 0, 0, 1, 1, 1, 1)[:operands])
         yield frame(chip)
-    for chip in (0x00, 0x02, 0x20, 0x21, 0x23, 0x25, 0x30, 0x31, 0x33, 0x35, 0x44, 0x46, 0x54, 0xA2, 0xFF):
+    yield from (frame(TPI, 0x0F, *(0, 0, 0, 1)[:operands]) for operands in range(5))
+    for chip in (0x00, 0x02, 0x20, 0x21, 0x23, 0x24, 0x26, 0x30, 0x31, 0x33, 0x35, 0x44, 0x46, 0x54, 0xA2, 0xFF):
         yield from (frame(chip, 1), frame(chip, 3, 1), frame(chip, 6), run(chip, 1), frame(chip, 7, 0, 0, 0, 1))
 
 
@@ -234,6 +281,14 @@ def no_such_register():
     for register in (16, 17, 27, 28, 31, 32, 64, 128, 240, 255):
         yield from (write(VIA, register, 0xFF), read(VIA, register))
     yield from look_via()
+    # I1 is in service, and I3 and I0 are latched.
+    yield from (*clean_tpi(), *falls(2), read(TPI, AIR), *falls(9))
+    for register in (8, 9, 15, 16, 32, 128, 255):
+        yield from (write(TPI, register, 0xFF), read(TPI, register))
+    yield from (*look_tpi(), *reads(TPI, AIR, AIR))
+    for register in (8, 255):
+        yield from (write(TPI, register, 0), *reads(TPI, register, PRC))
+    yield from (*ended(), *ended(), *ended())
     yield write(CRTC, 0, 8)
     for address in (2, 3, 4, 8, 31, 32, 128, 255):
         yield from (write(CRTC, address, 0xFF), read(CRTC, address))
@@ -362,8 +417,8 @@ def marked_cases():
 # ------------------------------------------------------------------ no frame
 
 def hostile_lines():
-    good = ("2201", "22020EC0", "22030D", "2204FFFF0F", "22050000000A", "2206", "32029C0A", "320384", "45020A0B",
-            "450500000007", "45070000000C")
+    good = ("2201", "22020EC0", "22030D", "2204FFFF0F", "22050000000A", "2206", "25020603", "250307", "2504FFFFFE",
+            "25050000000A", "32029C0A", "320384", "45020A0B", "450500000007", "45070000000C")
     for line in good:
         text = line.encode()
         yield from (text.lower(), text + b"\r", b"\r" + text, b" " + text, text + b" ", text + b"\t", b"\t" + text,
@@ -715,6 +770,173 @@ def via_cleared():
             yield from reads(VIA, register, IFR)
 
 
+# --------------------------------------------------------------------- 6525
+
+def tpi_registers():
+    """Each register written and read, in both modes; and CR with each of its bits."""
+    for cr in (0x00, MODE):
+        for value in (0x5A, 0xA5):
+            yield from (*clean_tpi(cr=cr, mask=0), pins(TPI, 0x3C, 0xC3, 0x96))
+            for register in (PRA, PRB, PRC, DIR_A, DIR_B, MASK):
+                yield from (write(TPI, register, value), read(TPI, register))
+            yield from (write(TPI, AIR, value ^ 0xFF), *reads(TPI, AIR, PRA, PRB, PRC))
+    yield from clean_tpi(cr=0)
+    for value in (*(1 << bit for bit in range(8)), 0xF0, 0x0F, 0xFF, 0x00):
+        yield from (write(TPI, CR, value), *reads(TPI, CR, PRC))
+
+
+def tpi_lines():
+    """Lines by direction: of ports A and B in both modes, of port C where it is a port."""
+    for cr in (0xFE, 0xFF):
+        # Output bytes are written in the one mode, and shown in both.
+        yield from (*clean_tpi(cr=0), write(TPI, PRC, 0x0F), write(TPI, CR, cr), write(TPI, PRA, 0x96), write(TPI, PRB, 0x69),
+                    write(TPI, PRC, 0x3C), write(TPI, DIR_A, 0xF0), write(TPI, DIR_B, 0x3C), write(TPI, MASK, 0x99))
+        for levels in ((0x5A, 0x3C, 0xC3), (0xA5, 0xC3, 0x3C)):
+            yield from (pins(TPI, *levels), *reads(TPI, PRA, PRB, PRC), write(TPI, CR, cr ^ MODE), *reads(TPI, PRA, PRB, PRC),
+                        write(TPI, CR, cr))
+    # In interrupt mode bit 5 is the interrupt pin, whatever stands outside, in the output byte or in the direction. The
+    # other lines are the outside levels: CA and CB are left out, so no access and no edge drives PC6 or PC7.
+    for bits, output, direction in ((0, 0x00, 0x1F), (1, 0xFF, 0xFF), (2, 0xFF, 0x1F), (3, 0x00, 0xFF)):
+        yield from (*clean_tpi(cr=0, mask=direction), write(TPI, PRC, output), write(TPI, CR, bits * 0x50 | MODE))
+        for upper in (0x00, 0xE0):
+            yield from (pins(TPI, 0, 0, upper | INPUTS), *reads(TPI, PRA, PRC), write(TPI, PRB, output), read(TPI, PRC),
+                        pins(TPI, 0, 0, upper), *reads(TPI, PRC, AIR, PRC), write(TPI, AIR, 0))
+
+
+def tpi_edges():
+    """Which moves of the inputs are latched: for each choice of edges, one by one, together, and none."""
+    singles = [levels for bit in range(5) for levels in (0xFF ^ 1 << bit, 0xFF)]
+    for rising, moves in ((0, singles), (RISING_3, singles[6:]), (RISING_4, singles[6:]), (RISING_3 | RISING_4, singles)):
+        yield from clean_tpi(cr=MODE | rising)
+        for levels in (*moves, 0x1F, 0xFF, 0xFF, 0x00, 0x00, 0x55, 0xAA, 0xFF):
+            yield from (port_c(levels), read(TPI, AIR))
+    # The direction makes no difference, nor does the output byte: as a port's lines these would not move.
+    yield from (*clean_tpi(cr=0, mask=0xFF), write(TPI, PRC, 0), write(TPI, CR, MODE), *falls(0x0A), read(TPI, AIR))
+    # An input that comes twice is latched once.
+    yield from (*clean_tpi(), *falls(4, 4), *reads(TPI, AIR, AIR))
+    # With the mode off nothing is latched, but the levels count for the next edge.
+    for rising, levels in ((0, 0xFF), (0, 0xE0), (RISING_3 | RISING_4, 0xE0)):
+        yield from (*clean_tpi(cr=rising), *falls(INPUTS), port_c(levels), write(TPI, CR, MODE | rising), read(TPI, AIR),
+                    port_c(levels), read(TPI, AIR), port_c(levels ^ INPUTS), *reads(TPI, AIR, PRC))
+    # Neither CR nor the mask makes an edge, whatever the levels are.
+    yield from (*clean_tpi(), port_c(0xF5), write(TPI, PRC, 0))
+    for cr in (0x0F, 0x03, 0x07, 0x0B, 0x02, 0x0F, 0x03):
+        yield from (write(TPI, CR, cr), read(TPI, AIR))
+    for mask in (0x00, 0xFF, 0x15, 0x1F):
+        yield from (write(TPI, MASK, mask), read(TPI, AIR))
+
+
+def tpi_shown():
+    """What AIR shows: with priority the highest that is latched and not masked, without it all of these."""
+    yield from clean_tpi()
+    for inputs in (0x01, 0x02, 0x03, 0x04, 0x05, 0x07, 0x08, 0x09, 0x0F, 0x10, 0x11, 0x17, 0x18, 0x1F):
+        yield from (port_c(0xFF & ~inputs), read(TPI, AIR), write(TPI, PRC, 0), port_c(0xFF))
+    # Latched behind a mask, and before it: the read takes what it shows, and leaves the rest. DDRC's upper bits mask none.
+    for priority in (0, PRIORITY):
+        for before, inputs, mask in ((0xE0, 0x1F, 0xE0), (0x0F, 0x1E, 0x0F), (0x1F, 0x1B, 0x15), (0x15, 0x0D, 0xEA),
+                                     (0x00, 0x15, 0xFE)):
+            yield from (*clean_tpi(cr=MODE | priority, mask=before), *falls(inputs), write(TPI, MASK, mask),
+                        *reads(TPI, PRC, AIR, PRC, AIR), write(TPI, MASK, INPUTS), *reads(TPI, AIR, AIR))
+
+
+def tpi_cases():
+    """The catalogue's three cases, an interrupt alone, a higher and a lower one during its service; and deeper ones."""
+    pin = read(TPI, PRC)
+    yield from (*clean_tpi(), pin, port_c(0xFD), pin, read(TPI, AIR), pin, port_c(0xFF), *ended())
+    yield from (*clean_tpi(), *falls(2), pin, read(TPI, AIR), pin, *falls(4), pin, read(TPI, AIR), pin)
+    # I2 is over and I1 goes on: I0 waits, I1 does too, and I2 does not.
+    yield from (*ended(), *falls(1), pin, *falls(2), pin, *falls(4), pin, read(TPI, AIR), *ended(), *ended(), read(TPI, AIR),
+                *ended(), read(TPI, AIR), *ended())
+    yield from (*clean_tpi(), *falls(2), pin, read(TPI, AIR), *falls(1), pin, *ended(), read(TPI, AIR), pin, *ended())
+    # All five, one in the other, each with the lower ones latched again. Then their ends, one by one: until its own end
+    # each holds back the same input.
+    yield from clean_tpi()
+    for place in range(5):
+        yield from (*falls((2 << place) - 1), read(TPI, AIR), pin)
+    for place in reversed(range(5)):
+        yield from (write(TPI, PRC, 0), *falls(1 << place), *ended())
+    # Three deep with gaps: I3 comes before I2 goes on, I1 when that is over, and I0 again after its own end.
+    yield from (*clean_tpi(), *falls(1), read(TPI, AIR), *falls(4), read(TPI, AIR), *falls(16), read(TPI, AIR), *falls(2, 8))
+    yield from (*ended(), read(TPI, AIR), *falls(1), *ended(), *ended(), read(TPI, AIR), *ended(), *ended(), read(TPI, AIR),
+                *ended())
+    # Without a write of AIR nothing at this place or below it interrupts again.
+    yield from (*clean_tpi(), *falls(8), read(TPI, AIR), *falls(8, 4, 2, 1), pin, *falls(16), pin)
+
+
+def tpi_services():
+    """With priority each input during the service of each, ended by any byte; without it all of them wait."""
+    yield from clean_tpi()
+    for first in range(5):
+        for second in range(5):
+            yield from (*falls(1 << first), read(TPI, AIR), *falls(1 << second), write(TPI, AIR, 1 << second), read(TPI, AIR),
+                        write(TPI, AIR, 0xE0))
+    yield from clean_tpi(cr=MODE)
+    for first, second, byte in ((1, 2, 0x01), (16, 8, 0x00), (4, 4, 0xFF), (0x12, 0x0D, 0x80)):
+        yield from (*falls(first), *reads(TPI, AIR, PRC), *falls(second), read(TPI, PRC), write(TPI, AIR, byte),
+                    *reads(TPI, PRC, AIR, PRC), *falls(first), *ended(), read(TPI, AIR), *ended())
+
+
+def tpi_extras():
+    """AIR read unasked, and written unasked: what is in service is a set."""
+    # A lower input is taken in the service of a higher one. The write ends the higher, and the lower is still in service.
+    yield from (*clean_tpi(), *falls(8), read(TPI, AIR), *falls(2), *reads(TPI, AIR, PRC), *falls(1), *ended(), *falls(2),
+                *falls(4), *reads(TPI, PRC, AIR), *ended(), *ended(), *reads(TPI, AIR, PRC), *ended(), read(TPI, AIR), *ended(),
+                *falls(1))
+    # The same input twice: one write ends it.
+    yield from (*clean_tpi(), *falls(4), read(TPI, AIR), *falls(4), *reads(TPI, AIR, AIR, PRC), *falls(2), *ended())
+    # A read that shows 0 changes nothing: with nothing latched, with all of it masked, and with the mode off.
+    yield from (*clean_tpi(), read(TPI, AIR), *falls(2), *reads(TPI, AIR, AIR), *falls(0x11), write(TPI, MASK, 0x0E),
+                *reads(TPI, AIR, AIR), write(TPI, CR, PRIORITY), *reads(TPI, AIR, PRC), write(TPI, CR, MODE | PRIORITY), *falls(2),
+                write(TPI, MASK, 0x0F), *ended(), *reads(TPI, AIR, AIR, AIR), *ended(), *ended(), write(TPI, MASK, INPUTS),
+                *reads(TPI, PRC, AIR))
+    # Writes with nothing in service: none is saved up, and none takes an input away.
+    for cr in (MODE, MODE | PRIORITY):
+        yield from (*clean_tpi(cr=cr), *ended(), *ended(), *falls(3), *ended(), *reads(TPI, AIR, PRC), *falls(1), *ended())
+
+
+def tpi_masks():
+    """The mask in the midst of things: what is latched stays so, and what is in service holds others back, masked or not."""
+    for cr in (MODE, MODE | PRIORITY):
+        yield from (*clean_tpi(cr=cr, mask=0xE0), *falls(0x16))
+        for mask in (0x08, 0x02, 0x06, 0x00, 0x10, 0x00, 0xFF):
+            yield write(TPI, MASK, mask)
+        yield from (read(TPI, AIR), write(TPI, MASK, 0x0B), *falls(9), read(TPI, PRC), *ended(), *reads(TPI, AIR, PRC),
+                    write(TPI, MASK, 0x01), *ended(), write(TPI, MASK, 0x00), *ended(), write(TPI, MASK, INPUTS),
+                    *reads(TPI, PRC, AIR, AIR))
+
+
+def tpi_switched():
+    """CR written with inputs latched and in service: they stay, and each mode goes on with what it finds."""
+    # I4, I2 and I0 in service and I1 latched, with priority and without it. From each, to another CR and back, or with the
+    # mode off for a while, in which AIR and PRC are read and written. Then the services are ended one by one.
+    nested = (*falls(1), read(TPI, AIR), *falls(4), read(TPI, AIR), *falls(16), read(TPI, AIR), *falls(2))
+    together = (*falls(0x15), read(TPI, AIR), *falls(2))
+    for cr, inputs in ((MODE | PRIORITY, nested), (MODE, together)):
+        for between in ([], [write(TPI, CR, cr ^ PRIORITY)], [write(TPI, CR, 0xFC | cr)],
+                        [write(TPI, CR, cr ^ MODE), *reads(TPI, AIR, PRC), write(TPI, AIR, 0), write(TPI, PRC, 0xE0)]):
+            yield from (*clean_tpi(cr=cr), *inputs, *between, write(TPI, CR, MODE | PRIORITY), read(TPI, PRC), *ended(), *ended(),
+                        *ended(), write(TPI, CR, MODE), *reads(TPI, AIR, AIR))
+    # What came while the mode was off is lost, what came before is not.
+    yield from (*clean_tpi(), *falls(4), write(TPI, CR, PRIORITY), *falls(0x1B), write(TPI, CR, MODE), *reads(TPI, PRC, AIR, AIR))
+    # With priority off in the midst of three services one write ends them all.
+    yield from (*clean_tpi(), *nested, write(TPI, CR, MODE), *ended(), *reads(TPI, AIR, PRC), *ended())
+
+
+def tpi_cleared():
+    """PRC written in interrupt mode: a 0 takes an input out of the latch, a 1 sets none, and the output byte stays."""
+    yield from (*clean_tpi(cr=0, mask=0xFF), write(TPI, PRC, 0x5A), write(TPI, CR, MODE))
+    for inputs, byte in ((0x1F, 0x00), (0x1F, 0xFF), (0x1F, 0x15), (0x1F, 0xEA), (0x0A, 0x1F), (0x0A, 0xF7), (0x15, 0x0E),
+                         (0x10, 0xEF), (0x00, 0xFF)):
+        yield from (*falls(inputs), write(TPI, PRC, byte), *reads(TPI, PRC, AIR), write(TPI, AIR, 0))
+    yield from (write(TPI, CR, 0), *reads(TPI, PRC, MASK))
+    # Masked ones too; and what is in service stays there.
+    yield from (*clean_tpi(), *falls(8), read(TPI, AIR), write(TPI, MASK, 0x06), *falls(INPUTS), write(TPI, PRC, 0x04),
+                write(TPI, MASK, INPUTS), read(TPI, PRC), *ended(), *reads(TPI, AIR, AIR))
+    # Where the mode is off the byte is an output byte, and the latch stays.
+    yield from (*clean_tpi(mask=0xFF), *falls(0x0B), write(TPI, CR, 0), write(TPI, PRC, 0x00), read(TPI, PRC),
+                write(TPI, PRC, 0xF4), read(TPI, PRC), write(TPI, CR, MODE), *reads(TPI, PRC, AIR))
+
+
 # --------------------------------------------------------------------- 6532
 
 def riot_memory():
@@ -1031,7 +1253,7 @@ def forecasts_kept():
 
 
 def longest_runs():
-    """T1 in both modes, T2, a byte in and one out, a 6532 timer and a screen, each over 4,294,967,295 clocks."""
+    """T1 in both modes, T2, a byte in and one out, a 6532 timer, a screen and a 6525, each over 4,294,967,295 clocks."""
     # The byte that goes out has its mark set, so that the run and the clock before it come to more than 32 bits hold.
     for acr, mode, before in ((0x80, IN_CLOCK, 0), (0xC0, OUT_CLOCK, 3)):
         yield from (*clean_shift(mode, others=acr, enables=0x7F), serial(1, 0), write(VIA, IFR, 0x7F), write(VIA, SR, 0xE4),
@@ -1043,6 +1265,10 @@ def longest_runs():
     yield from screen(r0=79, r1=64, r2=58, r3=0x8A, r4=38, r5=6, r6=25, r7=28, r9=7, r10=0x60, r11=7, r12=0x10, r14=0x10)
     yield from (run(CRTC, 20_070), *set_crtc(0, 63), *set_crtc(4, 29), *set_crtc(9, 1), run(CRTC, LONGEST), read(CRTC, 0),
                 run(CRTC, 4_224 - (LONGEST - 18_746) % 4_224), *clocks(CRTC, 2), told(16 * 4_224 - 2), *where())
+    # A clock changes nothing in the 6525: I2 in service, I1 waiting, and then interrupting.
+    yield from (*clean_tpi(), *falls(4), read(TPI, AIR), *falls(2), run(TPI, LONGEST), read(TPI, PRC), *ended(), run(TPI, LONGEST),
+                run(TPI, LONGEST - 1), run(TPI, 1 << 31), run(TPI, 0), *look_tpi(), read(TPI, AIR), run(TPI, LONGEST),
+                *falls(1), *ended(), read(TPI, AIR))
     for chip in (VIA, RIOT, CRTC):
         for power in range(21):
             yield from (run(chip, (1 << power) - 1), run(chip, 1 << power))
@@ -1050,12 +1276,12 @@ def longest_runs():
 
 
 def generated():
-    """sessions.py's stories of each chip alone and of all three, more or less hostile. Runs are kept short, for the
+    """sessions.py's stories of each chip alone and of all four, more or less hostile. Runs are kept short, for the
     reference also goes clock by clock."""
-    every = ("22", "32", "45")
+    every = sessions.EVERY_CHIP
     for seed, count, longest, chips, hostile in (
         (1, 4_000, 70_000, ("22",), 2), (2, 3_000, 70_000, ("32",), 2), (3, 4_000, 70_000, ("45",), 2),
-        (4, 12_000, 70_000, every, 4), (5, 3_000, 300, every, 12), (6, 2_000, 3, every, 0),
+        (9, 3_000, 70_000, ("25",), 2), (4, 9_000, 70_000, every, 4), (5, 3_000, 300, every, 12), (6, 2_000, 3, every, 0),
         (7, 1_000, 3_000_000, every, 4), (8, 1_000, 70_000, every, 40),
     ):
         yield from sessions.session(seed, count, longest, chips, hostile)
@@ -1065,8 +1291,9 @@ SECTIONS = (
     worked_session, as_they_come, every_frame, resets, no_frames, no_such_register, forms_left_out, levels_too_high,
     runs_too_long, easy_to_get_wrong, marked_cases, hostile_lines, via_registers, via_lines, via_edges,
     via_port_flags, via_timers, via_shift_modes, via_shift_clocks, via_shift_pulses, via_shift_inputs,
-    via_shift_accesses, via_shift_switched, via_shift_forecasts, via_cleared, riot_memory, riot_addresses, riot_timer,
-    riot_pa7, riot_cleared, crtc_registers, crtc_screens, crtc_cursor, crtc_lowered, crtc_pen, crtc_turns,
+    via_shift_accesses, via_shift_switched, via_shift_forecasts, via_cleared, tpi_registers, tpi_lines, tpi_edges,
+    tpi_shown, tpi_cases, tpi_services, tpi_extras, tpi_masks, tpi_switched, tpi_cleared, riot_memory, riot_addresses,
+    riot_timer, riot_pa7, riot_cleared, crtc_registers, crtc_screens, crtc_cursor, crtc_lowered, crtc_pen, crtc_turns,
     crtc_long_runs, crtc_long_syncs, crtc_long_fields, crtc_long_odd, crtc_long_pen, forecasts_kept, longest_runs, generated,
 )
 
