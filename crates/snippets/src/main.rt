@@ -1,4 +1,4 @@
-// README's three examples, line by line as they stand there. The program writes what their comments say of the answers;
+// README's four examples, line by line as they stand there. The program writes what their comments say of the answers;
 // tests/readme holds both against README.md.
 use clocks::Forecast;
 use libc::STDOUT_FILENO;
@@ -82,8 +82,24 @@ fn sender() {
     say_byte(b"shown.data", shown.data);
 }
 
+fn served() {
+    let tpi = tpi6525::Tpi::power_up();
+    let masked = tpi.write(5, 0x1F); // the mask: all five inputs are let through
+    let ready = masked.tpi.write(6, 0x03); // CR: interrupt mode, with priority
+    let fallen = ready.tpi.pins(0xFF, 0xFF, 0xFD); // I1 falls: fallen.irq is true
+    let read = fallen.tpi.read(7); // AIR: read.data is 0x02, read.irq is false: I1 is in service
+    let lower = read.tpi.pins(0xFF, 0xFF, 0xFC); // I0 falls, and has to wait: lower.irq is false
+    let ended = lower.tpi.write(7, 0); // I1's service ends: ended.irq is true
+    say_line(b"fallen.irq", fallen.irq);
+    say_byte(b"read.data", read.data);
+    say_line(b"read.irq", read.irq);
+    say_line(b"lower.irq", lower.irq);
+    say_line(b"ended.irq", ended.irq);
+}
+
 fn main() {
     interval();
     one_shot();
     sender();
+    served();
 }
