@@ -1,47 +1,39 @@
 use borrow.Author.Needs.{needs}
 use borrow.Author.Tests.{lt-ltb, le-ltb}
 use mathlib.Core.Bool.{true, false}
-use mathlib.Core.List.{[], _∷_}
-use Rattle.frames.specs.Frames.{called}
+use mathlib.Core.List.{List, [], _∷_}
+use mathlib.Core.Path.{_≡_}
+use Prim.Native.Nat.{ℕ}
+use Rattle.frames.specs.Frames.{areBytes, called}
 use Rattle.frames.proofs.Lines.{wide-bytes, no-bytes, all-bytes, no-row}
 use Rattle.frames.proofs.with_one.Statement.{statement}
 use Rattle.frames.proofs.with_one.Tie as tie
+use Rattle.frames.proofs.with_one.Reads as reads
+use Rattle.frames.proofs.with_one.Lts as lts
+
+abbrev operands : lts.Start reads.Pre reads.Post → List ℕ
+operands s = s .args .a ∷ []
+
+-- those that are not refused are bytes
+bytes : (e : lts.Else1 reads.Pre reads.Post) → areBytes (operands (e .before)) ≡ true
+bytes e = wide-bytes (e .before .args .a) ([]) false (le-ltb 255 (e .before .args .a) (e .if1 .left))
 
 returns : tie.Need-returns
-returns c = let s = c .before in no-bytes _ (s .args .a ∷ []) (wide-bytes (s .args .a) ([]) true (lt-ltb 255 (s .args .a) (c .if1 .taken)))
-
-returns-2 : tie.Need-returns-2
-unfolding called
-returns-2 c =
-    let s = c .before .before in
-    rw (c .match .keys1) (all-bytes _ (s .args .a ∷ []) (wide-bytes (s .args .a) ([]) false (le-ltb 255 (s .args .a) (c .before .if1 .left))))
-
-returns-3 : tie.Need-returns-3
-unfolding called
-returns-3 c =
-    let s = c .before .before in
-    rw (c .match .keys2) (all-bytes _ (s .args .a ∷ []) (wide-bytes (s .args .a) ([]) false (le-ltb 255 (s .args .a) (c .before .if1 .left))))
-
-returns-4 : tie.Need-returns-4
-unfolding called
-returns-4 c =
-    let s = c .before .before in
-    rw (c .match .keys3) (all-bytes _ (s .args .a ∷ []) (wide-bytes (s .args .a) ([]) false (le-ltb 255 (s .args .a) (c .before .if1 .left))))
-
-returns-5 : tie.Need-returns-5
-unfolding called
-returns-5 c =
-    let s = c .before .before in
-    rw (c .match .keys4) (all-bytes _ (s .args .a ∷ []) (wide-bytes (s .args .a) ([]) false (le-ltb 255 (s .args .a) (c .before .if1 .left))))
-
-returns-6 : tie.Need-returns-6
-unfolding called
-returns-6 c =
-    let s = c .before .before in
-    rw (c .match .keys5) (all-bytes _ (s .args .a ∷ []) (wide-bytes (s .args .a) ([]) false (le-ltb 255 (s .args .a) (c .before .if1 .left))))
+returns c = let s = c .before in no-bytes _ (operands s) (wide-bytes (s .args .a) ([]) true (lt-ltb 255 (s .args .a) (c .if1 .taken)))
 
 returns-7 : tie.Need-returns-7
-returns-7 c = let s = c .before .before in let r = c .match .rest in no-row _ (s .args .a ∷ []) (r .0 .0 .0 .0 .1, (r .0 .0 .0 .1, (r .0 .0 .1, (r .0 .1, (r .1, tt)))))
+returns-7 c = let r = c .match .rest in no-row _ (operands (c .before .before)) (r .0 .0 .0 .0 .1, (r .0 .0 .0 .1, (r .0 .0 .1, (r .0 .1, (r .1, tt)))))
 
 pub with-one-spec : {M : Type 1} → statement M
-with-one-spec = tie.close (tie.spec returns (λ c. search needs) returns-2 returns-3 returns-4 returns-5 returns-6 returns-7)
+unfolding called
+with-one-spec =
+    tie.close
+    (tie.spec
+    returns
+    (λ c. search needs)
+    (λ c. rw (c .match .keys1) (all-bytes _ _ (bytes (c .before))))
+    (λ c. rw (c .match .keys2) (all-bytes _ _ (bytes (c .before))))
+    (λ c. rw (c .match .keys3) (all-bytes _ _ (bytes (c .before))))
+    (λ c. rw (c .match .keys4) (all-bytes _ _ (bytes (c .before))))
+    (λ c. rw (c .match .keys5) (all-bytes _ _ (bytes (c .before))))
+    returns-7)
