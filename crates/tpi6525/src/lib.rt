@@ -34,6 +34,9 @@ pub struct Answer {
 }
 
 impl Tpi {
+    // The highest register, AIR. An access above it is refused.
+    pub const LAST_REGISTER: u8 = 7;
+
     pub fn power_up() -> Tpi
         ensures { λ r. ⌜ r ≡ powerUp ⌝ }
     {
@@ -85,7 +88,7 @@ impl Tpi {
     fn access_refusal(self, register: u8) -> u8
         ensures { λ r. ⌜ r ≡ (if wellFormed self then registerAsks register else 1) ⌝ }
     {
-        self.refusal(choose8(7 < register, 3, 0))
+        self.refusal(choose8(Tpi::LAST_REGISTER < register, 3, 0))
     }
 
     pub fn reset(mut self) -> Answer
@@ -111,7 +114,7 @@ impl Tpi {
             return self.refused(number);
         }
         let data = self.data(register);
-        if register != 7 {
+        if register != Tpi::LAST_REGISTER {
             return self.accepted(data);
         }
         self.inputs = self.inputs.taken(data);
