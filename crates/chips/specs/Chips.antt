@@ -1,6 +1,6 @@
 -- One theory for all chips of the bench: what makes a chip, its answer to a call, the records that can come up, and the demands on them.
--- Each chip's specs/Chip.antt fills in Chip, Clocked and Lined; its specs/Demands.antt asks for Answers and Runs of them, and where there
--- is an interrupt line for Lines, Keeps-word and Largest-forecast.
+-- Each chip's specs/Chip.antt fills in Chip and Clocked, and where there is a forecast Lined; its specs/Demands.antt asks for Answers and Runs
+-- of them, and then for Lines, Keeps-word and Largest-forecast.
 use mathlib.Core.Path.{_≡_}
 use mathlib.Core.Bool.{Bool, true, false}
 use mathlib.Core.Logic.{_↔_}

@@ -2,11 +2,11 @@
 use mathlib.Core.Path.{_≡_, refl, ap, ap₂, _∙_}
 use mathlib.Core.Bool.{Bool, true, false, _&&_}
 use mathlib.Core.List.{List, [], _∷_, _++_}
-use Prim.Native.Nat.{ℕ, zero, suc, _+_, _*_, _/_, _%_, _<_, _≤_}
+use Prim.Native.Nat.{ℕ, zero, suc, suc-le-suc, _+_, _*_, _/_, _%_, _<_, _≤_}
 use native.Mathlib.Omega.{arith}
 use lib.Dec.{eqb, ltb, leb}
 use lib.ListN.{length}
-use borrow.Author.Tests.{le-leb, leb-true}
+use borrow.Author.Tests.{lt-ltb, le-leb, leb-true}
 use Rattle.clocks.specs.Clocks.{if_then_else_}
 use Rattle.clocks.proofs.Tests.{picked, both}
 use Rattle.calls.specs.declared.Call22.the-variants as Via
@@ -19,7 +19,7 @@ use Rattle.frames.specs.Frames.{bytesOf, areBytes, byte, clocks, Row, ro
 use Rattle.frames.specs.Demands.{Typed, count, lineOf}
 use Rattle.frames.specs.Demands as Demands
 use Rattle.frames.specs.declared.Frame.the-variants.{Unknown, To22, To25, To32, To45}
-use Rattle.frames.proofs.Lines.{by-less, value-by, small, Bytes, no-more, a-byte, are-bytes}
+use Rattle.frames.proofs.Lines.{by-less, value-by, small}
 
 -- ---- the operands of a line's call
 
@@ -109,6 +109,15 @@ unfolding frameOf checked
 said s e h =
     let u : length (lineOf s) ≤ 32 = omega (arith, line-length s, leb-true (length s) 16 h) in
     rw (le-leb (length (lineOf s)) 32 u, bytes-back s e, e)
+
+-- operands that are bytes
+data Bytes : List ℕ → Type 0 where
+  no-more : Bytes []
+  a-byte : {b : ℕ} {s : List ℕ} → b ≤ 255 → Bytes s → Bytes (b ∷ s)
+
+are-bytes : {s : List ℕ} → Bytes s → areBytes s ≡ true
+are-bytes no-more = refl
+are-bytes (a-byte {b} {s} h r) = rw (lt-ltb b 256 (suc-le-suc h), are-bytes r)
 
 count-bytes : (n : ℕ) → Bytes (count n)
 count-bytes n =

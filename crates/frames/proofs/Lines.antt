@@ -1,9 +1,9 @@
 -- The frame of a line, by its length and its first two bytes.
 use mathlib.Core.Path.{_≡_, refl, sym, ap, _∙_}
-use mathlib.Core.Bool.{Bool, true, false, not, _&&_, _||_, and-true, false≢true}
+use mathlib.Core.Bool.{Bool, true, false, not, _&&_, _||_, and-true, and-false, false≢true}
 use mathlib.Core.List.{List, [], _∷_}
 use mathlib.Core.Logic.{_⊎_, inl, inr}
-use Prim.Native.Nat.{ℕ, zero, suc, suc-le-suc, _+_, _-_, _*_, _%_, _<_, _≤_}
+use Prim.Native.Nat.{ℕ, zero, suc, _+_, _-_, _*_, _%_, _<_, _≤_}
 use native.Mathlib.Decide.{decLt}
 use native.Mathlib.Omega.{arith}
 use native.Mathlib.Numerals.{add-one, add-two}
@@ -81,24 +81,11 @@ pub either-same : {A : Type 0} (t : Bool) (x : A) → (if t then x else x) ≡ x
 either-same true x = refl
 either-same false x = refl
 
-pub and-no : (t : Bool) → (t && false) ≡ false
-and-no true = refl
-and-no false = refl
-
 -- each of some bytes is below 256, and so is the 0 past their end
 pub small : (s : List ℕ) → areBytes s ≡ true → (k : ℕ) → byte k s < 256
 small [] e k = omega arith
 small (b ∷ s) e zero = ltb-true b 256 (both (ltb b 256) (areBytes s) e .0)
 small (b ∷ s) e (suc k) = small s (both (ltb b 256) (areBytes s) e .1) k
-
--- operands that are bytes
-pub data Bytes : List ℕ → Type 0 where
-  no-more : Bytes []
-  a-byte : {b : ℕ} {s : List ℕ} → b ≤ 255 → Bytes s → Bytes (b ∷ s)
-
-pub are-bytes : {s : List ℕ} → Bytes s → areBytes s ≡ true
-are-bytes no-more = refl
-are-bytes (a-byte {b} {s} h r) = rw (lt-ltb b 256 (suc-le-suc h), are-bytes r)
 
 -- the m bytes whose digits are from k on
 abbrev pub pairsOf : List ℕ → ℕ → ℕ → List ℕ
@@ -134,7 +121,7 @@ found-none (r ∷ t) w s m = go (λ q. found-none t w s q) (eqb (length s) (r .o
         → (b : Bool) → eqb (length s) (r .operands) ≡ b → Misses (if b then r .word ∷ words (length s) t else words (length s) t) w
         → found (r ∷ t) w s ≡ Unknown
     go others true e q = rw (ne-eqb w (r .word) (q .0)) (others (q .1))
-    go others false e q = rw (e, and-no (eqb w (r .word))) (others q)
+    go others false e q = rw (e, and-false (eqb w (r .word))) (others q)
 
 -- no word is above 65535, and no operation has more than four operands
 bounded : List Row → Bool
@@ -151,8 +138,9 @@ found-beyond (r ∷ t) w s b h =
   where
     row-beyond : r .word ≤ 65535 → r .operands ≤ 4 → (65535 < w) ⊎ (4 < length s) → (eqb w (r .word) && eqb (length s) (r .operands)) ≡ false
     row-beyond p q (inl h) = rw (ne-eqb w (r .word) (λ e. omega (arith, e)))
-    row-beyond p q (inr h) = rw (ne-eqb (length s) (r .operands) (λ e. omega (arith, e))) (and-no (eqb w (r .word)))
+    row-beyond p q (inr h) = rw (ne-eqb (length s) (r .operands) (λ e. omega (arith, e))) (and-false (eqb w (r .word)))
 
+-- so neither of these is a call
 above : (w : ℕ) (s : List ℕ) → 65535 < w → called w s ≡ Unknown
 unfolding called bounded
 above w s h = found-beyond table w s refl (inl h)
@@ -166,6 +154,7 @@ abbrev pub wide : Bool → List ℕ → Bool
 wide t [] = t
 wide t (a ∷ s) = wide (t || ltb 255 a) s
 
+-- the code asks whether an operand is above 255, the definition whether it is below 256
 fits : (a : ℕ) → not (ltb 255 a) ≡ ltb a 256
 fits a = go (decLt a 256)
   where
@@ -173,18 +162,18 @@ fits a = go (decLt a 256)
     go (yes h) = rw (lt-ltb a 256 h, le-ltb 255 a (omega arith))
     go (no h) = rw (le-ltb a 256 (omega arith), lt-ltb 255 a (omega arith))
 
-neither : (t w b : Bool) → (not (t || w) && b) ≡ (not t && (not w && b))
-neither true w b = refl
-neither false w b = refl
+not-either : (t w b : Bool) → (not (t || w) && b) ≡ (not t && (not w && b))
+not-either true w b = refl
+not-either false w b = refl
 
 wide-from : (t : Bool) (s : List ℕ) → not (wide t s) ≡ (not t && areBytes s)
 wide-from t [] = sym (and-true (not t))
-wide-from t (a ∷ s) = wide-from (t || ltb 255 a) s ∙ neither t (ltb 255 a) (areBytes s) ∙ rw (fits a)
+wide-from t (a ∷ s) = wide-from (t || ltb 255 a) s ∙ not-either t (ltb 255 a) (areBytes s) ∙ rw (fits a)
 
 pub wide-bytes : (a : ℕ) (s : List ℕ) (t : Bool) → wide (ltb 255 a) s ≡ t → areBytes (a ∷ s) ≡ not t
 wide-bytes a s t e = ap (λ (b : Bool). b && areBytes s) (sym (fits a)) ∙ sym (wide-from (ltb 255 a) s) ∙ ap not e
 
--- operands of which one is no byte, and a word that no row with so many operands has
+-- what is asked for by operands of which one is no byte, by bytes, and by a word that no row with so many operands has
 pub no-bytes : (w : ℕ) (s : List ℕ) → areBytes s ≡ false → Unknown ≡ asked w s
 unfolding asked
 no-bytes w s e = rw e

@@ -90,7 +90,7 @@ found (r ∷ t) w s = if eqb w (r .word) && eqb (length s) (r .operands) then r 
 unfoldable pub called : ℕ → List ℕ → Frame
 called w s = found table w s
 
--- the same of operands that may be no bytes
+-- the same of operands that may be no bytes: what the functions by number of operands promise
 unfoldable pub asked : ℕ → List ℕ → Frame
 asked w s = if areBytes s then called w s else Unknown
 

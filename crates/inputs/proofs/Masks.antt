@@ -11,11 +11,7 @@ use Rattle.clocks.specs.Clocks.{if_then_else_}
 use Rattle.clocks.specs.Bits.{bit, gone, withBit, merge}
 use Rattle.clocks.proofs.Bits.{bit-mod, bit-here, bit-other, bit-clear, bit-merge, same-bits, with-lt}
 use Rattle.ports.specs.Ports.{edge}
-use Rattle.inputs.specs.Inputs.{rises, edgesOf}
-
--- whether input k made its edge
-abbrev pub edgeAt : ℕ → ℕ → ℕ → ℕ → Bool
-edgeAt k cr old new = edge (rises cr k) (bit k old) (bit k new)
+use Rattle.inputs.specs.Inputs.{rises, edgeAt, edgesOf}
 
 pub edges-lt : (n cr old new : ℕ) → edgesOf n cr old new < 2 ^ n
 unfolding edgesOf

@@ -14,7 +14,7 @@ use Rattle.clocks.specs.Bits.{bit}
 use Rattle.clocks.proofs.Bits.{bit-zero, bit-suc, bit-high, bit-none, bit-power}
 use Rattle.inputs.specs.Inputs.{highestOf}
 
--- bit j is the highest one set in x
+-- x reaches 2 ^ j and not its double
 pub record Top (x j : ℕ) : Type 0 where
   pub reached : 2 ^ j ≤ x
   pub below : x < 2 ^ suc j
@@ -110,7 +110,7 @@ below-highest n x w h g = go (ℕ-discrete w 0)
 
 -- ---- the same by bits
 
--- bit k is the highest one set in x
+-- bit k is set in x, and none above it
 abbrev pub Highest : ℕ → ℕ → Type 0
 Highest k x = (bit k x ≡ true) × ((j : ℕ) → k < j → bit j x ≡ false)
 

@@ -4,8 +4,7 @@ use mathlib.Core.Bool.{true, false, not, _&&_, _||_}
 use mathlib.Core.Logic.{_↔_}
 use Prim.Native.Nat.{ℕ, _<_}
 use Rattle.clocks.specs.Bits.{bit}
-use Rattle.ports.specs.Ports.{edge}
-use Rattle.inputs.specs.Inputs.{interrupts, priority, wellInputs, idle, rises, pinned, shown, asserted, taken, ended, kept}
+use Rattle.inputs.specs.Inputs.{interrupts, priority, wellInputs, idle, edgeAt, pinned, shown, asserted, taken, ended, kept}
 use Rattle.inputs.specs.declared.Inputs.{Inputs}
 
 -- input k is latched, and the mask lets it through
@@ -28,8 +27,8 @@ Shows-all =
 abbrev pub Shows-none : Type 0
 Shows-none = (cr mask : ℕ) (v : Inputs) → interrupts cr ≡ false → shown cr mask v ≡ 0
 
--- why the interrupt is asserted: in interrupt mode an input is shown; with priority it is higher than every input in service, and without it
--- there is none in service
+-- why the interrupt is asserted: in interrupt mode an input is shown; with priority all that are in service are lower, and without it none is
+-- in service
 pub record Raised (cr mask : ℕ) (v : Inputs) : Type 0 where
   pub mode : interrupts cr ≡ true
   pub input : ℕ
@@ -44,7 +43,7 @@ Asserted-exact = (cr mask : ℕ) (v : Inputs) → wellInputs v ≡ true → (ass
 abbrev pub Pinned-exact : Type 0
 Pinned-exact =
     (cr old new : ℕ) (v : Inputs) (k : ℕ) → k < 5 → interrupts cr ≡ true
-    → bit k (pinned cr old new v .latch) ≡ (bit k (v .latch) || edge (rises cr k) (bit k old) (bit k new))
+    → bit k (pinned cr old new v .latch) ≡ (bit k (v .latch) || edgeAt k cr old new)
 
 -- a read of the register moves from the latch into service what it showed, and nothing else; one that shows nothing changes nothing
 abbrev pub Taken-exact : Type 0
@@ -56,21 +55,33 @@ Taken-exact =
 abbrev pub Taken-none : Type 0
 Taken-none = (v : Inputs) → taken 0 v ≡ v
 
--- after a write of it with priority those are in service above which another was; without priority none is
-abbrev pub Ended-exact : Type 0
-Ended-exact =
+-- and the interrupt is not asserted then
+abbrev pub Taken-releases : Type 0
+Taken-releases = (cr mask : ℕ) (v : Inputs) → wellInputs v ≡ true → asserted cr mask (taken (shown cr mask v) v) ≡ false
+
+-- a write of it with priority leaves all in service but the highest, each of which has another above it; without priority it leaves none. The
+-- latch stays
+abbrev pub Ended-highest : Type 0
+Ended-highest =
     (cr : ℕ) (v : Inputs) (k : ℕ) → wellInputs v ≡ true → interrupts cr ≡ true → priority cr ≡ true
-    → (bit k (ended cr v .service) ≡ true)
-    ↔ ((bit k (v .service) ≡ true) × ((j : ℕ) × (k < j) × (bit j (v .service) ≡ true)))
+    → ((bit k (ended cr v .service) ≡ true)
+    ↔ ((bit k (v .service) ≡ true) × ((j : ℕ) × (k < j) × (bit j (v .service) ≡ true))))
+    × (ended cr v .latch ≡ v .latch)
 
 abbrev pub Ended-all : Type 0
 Ended-all =
     (cr : ℕ) (v : Inputs) → interrupts cr ≡ true → priority cr ≡ false → ended cr v ≡ record { latch = v .latch; service = 0 }
 
--- a write of port C in interrupt mode leaves an input latched where it was, and is written as 1
+-- a write of port C in interrupt mode leaves an input latched that was latched and is written as 1
 abbrev pub Kept-exact : Type 0
 Kept-exact =
     (cr x : ℕ) (v : Inputs) (k : ℕ) → interrupts cr ≡ true → bit k (kept cr x v .latch) ≡ (bit k (v .latch) && bit k x)
+
+-- out of interrupt mode no edge and no write changes anything
+abbrev pub Out-of-mode : Type 0
+Out-of-mode =
+    (cr old new x : ℕ) (v : Inputs) → interrupts cr ≡ false
+    → (pinned cr old new v ≡ v) × (ended cr v ≡ v) × (kept cr x v ≡ v)
 
 -- five inputs stay five, whatever is asked of them
 pub record Stays-well : Type 0 where

@@ -28,10 +28,14 @@ idle = record { latch = 0; service = 0 }
 abbrev pub rises : ℕ → ℕ → Bool
 rises cr k = if eqb k 4 then bit 3 cr else if eqb k 3 then bit 2 cr else false
 
--- those of the lowest n inputs that made their edges, from the old levels to the new
+-- whether input k made its edge, from the old level to the new
+abbrev pub edgeAt : ℕ → ℕ → ℕ → ℕ → Bool
+edgeAt k cr old new = edge (rises cr k) (bit k old) (bit k new)
+
+-- those of the lowest n inputs that did
 unfoldable pub edgesOf : ℕ → ℕ → ℕ → ℕ → ℕ
 edgesOf zero cr old new = 0
-edgesOf (suc n) cr old new = withBit n (edge (rises cr n) (bit n old) (bit n new)) (edgesOf n cr old new)
+edgesOf (suc n) cr old new = withBit n (edgeAt n cr old new) (edgesOf n cr old new)
 
 -- in interrupt mode edges are latched, masked or not
 unfoldable pub pinned : ℕ → ℕ → ℕ → Inputs → Inputs
@@ -49,7 +53,7 @@ highestOf (suc n) x = if bit n x then 2 ^ n else highestOf n x
 abbrev pub unmasked : ℕ → Inputs → ℕ
 unmasked mask v = bitAnd (v .latch) (mask % 32)
 
--- in interrupt mode the register shows these, with priority only the highest of them; else it shows 0
+-- in interrupt mode the register shows these, with priority only the highest (of a byte, the high three bits of which are 0); else it shows 0
 unfoldable pub shown : ℕ → ℕ → Inputs → ℕ
 shown cr mask v =
     if interrupts cr then if priority cr then highestOf 8 (unmasked mask v) else unmasked mask v else 0
@@ -68,7 +72,7 @@ asserted cr mask v = not (eqb (shown cr mask v) 0) && not (heldBack cr (shown cr
 abbrev pub taken : ℕ → Inputs → Inputs
 taken s v = record { latch = withClear s (v .latch); service = withSet s (v .service) }
 
--- a write of it, of any byte, ends in interrupt mode the service of the highest with priority, and of all without it
+-- in interrupt mode a write of it, of any byte, ends a service: with priority that of the highest, without it all of them
 unfoldable pub ended : ℕ → Inputs → Inputs
 ended cr v =
     if interrupts cr then

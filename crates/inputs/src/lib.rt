@@ -22,10 +22,10 @@ pub fn highest(x: u8) -> u8
 }
 
 // The inputs that made their edges. IE4 and IE3, bits 3 and 2 of CR, stand one place below I4 and I3.
-fn edges(control: u8, old: u8, new: u8) -> u8
-    ensures { λ r. ⌜ r ≡ edgesOf 5 control old new ⌝ }
+fn edges(cr: u8, old: u8, new: u8) -> u8
+    ensures { λ r. ⌜ r ≡ edgesOf 5 cr old new ⌝ }
 {
-    let rising = control / 4 % 4 * 8;
+    let rising = cr / 4 % 4 * 8;
     clocks::merge(rising, gone(new, old), gone(old, new)) % 32
 }
 
@@ -46,33 +46,33 @@ impl Inputs {
     }
 
     // New levels on the inputs.
-    pub fn pinned(mut self, control: u8, old: u8, new: u8) -> Inputs
-        ensures { λ r. ⌜ r ≡ pinnedOf control old new self ⌝ }
+    pub fn pinned(mut self, cr: u8, old: u8, new: u8) -> Inputs
+        ensures { λ r. ⌜ r ≡ pinnedOf cr old new self ⌝ }
     {
-        if !bit(0, control) {
+        if !bit(0, cr) {
             return self;
         }
-        self.latch = self.latch | edges(control, old, new);
+        self.latch = self.latch | edges(cr, old, new);
         self
     }
 
     // What the active interrupt register shows.
-    pub fn shown(self, control: u8, mask: u8) -> u8
-        ensures { λ r. ⌜ r ≡ shownOf control mask self ⌝ }
+    pub fn shown(self, cr: u8, mask: u8) -> u8
+        ensures { λ r. ⌜ r ≡ shownOf cr mask self ⌝ }
     {
-        if !bit(0, control) {
+        if !bit(0, cr) {
             return 0;
         }
         let unmasked = self.latch & (mask % 32);
-        choose8(bit(1, control), highest(unmasked), unmasked)
+        choose8(bit(1, cr), highest(unmasked), unmasked)
     }
 
     // The interrupt. Inputs in service are all lower than one that is shown alone exactly if they come to less than its weight.
-    pub fn asserted(self, control: u8, mask: u8) -> bool
-        ensures { λ r. ⌜ r ≡ assertedOf control mask self ⌝ }
+    pub fn asserted(self, cr: u8, mask: u8) -> bool
+        ensures { λ r. ⌜ r ≡ assertedOf cr mask self ⌝ }
     {
-        let shown = self.shown(control, mask);
-        if bit(1, control) {
+        let shown = self.shown(cr, mask);
+        if bit(1, cr) {
             self.service < shown
         } else {
             (shown != 0) & (self.service == 0)
@@ -89,22 +89,22 @@ impl Inputs {
     }
 
     // A write of it ends service.
-    pub fn ended(mut self, control: u8) -> Inputs
-        ensures { λ r. ⌜ r ≡ endedOf control self ⌝ }
+    pub fn ended(mut self, cr: u8) -> Inputs
+        ensures { λ r. ⌜ r ≡ endedOf cr self ⌝ }
     {
-        if !bit(0, control) {
+        if !bit(0, cr) {
             return self;
         }
         let rest = gone(self.service, highest(self.service));
-        self.service = choose8(bit(1, control), rest, 0);
+        self.service = choose8(bit(1, cr), rest, 0);
         self
     }
 
     // A write of port C: the latch keeps what was written as 1.
-    pub fn kept(mut self, control: u8, value: u8) -> Inputs
-        ensures { λ r. ⌜ r ≡ keptOf control value self ⌝ }
+    pub fn kept(mut self, cr: u8, value: u8) -> Inputs
+        ensures { λ r. ⌜ r ≡ keptOf cr value self ⌝ }
     {
-        if !bit(0, control) {
+        if !bit(0, cr) {
             return self;
         }
         self.latch = self.latch & value;

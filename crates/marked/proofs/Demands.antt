@@ -27,20 +27,20 @@ use Rattle.crtc6545.specs.Record as Crtc6545
 use Rattle.crtc6545.specs.Access as Access45
 use Rattle.crtc6545.specs.Clock as Clock45
 use Rattle.crtc6545.specs.Chip as Chip45
-use Rattle.marked.specs.Cases.{Case, on-6522, on-6525, on-6532, on-6545, Shows22, Comes, Shows32, Shows45, Holds}
+use Rattle.marked.specs.Cases.{Case, on-6522, on-6525, on-6532, on-6545, Shows22, Shows25, Shows32, Shows45, Holds}
 use Rattle.marked.specs.Table.{table, catalogue}
 use Rattle.marked.specs.Demands
 use Rattle.marked.proofs.Tests.{leads, leads-holds, every, every-holds, along}
 use Rattle.marked.proofs.Typed.{typed22, is-typed22, typed25, is-typed25, typed32, is-typed32, typed45, is-typed45}
 use Rattle.marked.proofs.On22.{flags1, passes22, passes22-holds}
-use Rattle.marked.proofs.On25.{comes25, comes25-holds}
+use Rattle.marked.proofs.On25.{passes25, passes25-holds}
 use Rattle.marked.proofs.On32.{passes32, passes32-holds}
 use Rattle.marked.proofs.On45.{passes45, passes45-holds}
 
 -- the test of a case, and why a case that passes it holds
 unfoldable pub passes : Case → Bool
 passes (on-6522 calls o) = leads Chip22.chip typed22 is-typed22 (passes22 o) calls (Chip22.chip .powerUp)
-passes (on-6525 calls steps) = leads Chip25.chip typed25 is-typed25 (comes25 steps) calls (Chip25.chip .powerUp)
+passes (on-6525 calls steps) = leads Chip25.chip typed25 is-typed25 (passes25 steps) calls (Chip25.chip .powerUp)
 passes (on-6532 calls o) = leads Chip32.chip typed32 is-typed32 (passes32 o) calls (Chip32.chip .powerUp)
 passes (on-6545 calls o) = leads Chip45.chip typed45 is-typed45 (passes45 o) calls (Chip45.chip .powerUp)
 
@@ -49,7 +49,7 @@ unfolding passes
 passes-holds (on-6522 calls o) e =
     leads-holds Chip22.chip typed22 is-typed22 (passes22 o) (Shows22 o) (passes22-holds o) calls (Chip22.chip .powerUp) e
 passes-holds (on-6525 calls steps) e =
-    leads-holds Chip25.chip typed25 is-typed25 (comes25 steps) (Comes steps) (comes25-holds steps) calls (Chip25.chip .powerUp) e
+    leads-holds Chip25.chip typed25 is-typed25 (passes25 steps) (Shows25 steps) (passes25-holds steps) calls (Chip25.chip .powerUp) e
 passes-holds (on-6532 calls o) e =
     leads-holds Chip32.chip typed32 is-typed32 (passes32 o) (Shows32 o) (passes32-holds o) calls (Chip32.chip .powerUp) e
 passes-holds (on-6545 calls o) e =
@@ -77,9 +77,9 @@ marked = (refl, every-holds passes Holds passes-holds table all-pass)
 -- and that of the catalogue's cases
 all-come : every passes catalogue ≡ true
 unfolding
-    catalogue every passes leads comes25 bit withBit withSet withClear answer
+    catalogue every passes leads passes25 bit withBit withSet withClear answer
     Inputs.edgesOf Inputs.pinned Inputs.highestOf Inputs.shown Inputs.asserted Inputs.ended Inputs.kept
-    Access25.dataOf Access25.readOf Access25.inputsAfter Access25.storedOf
+    Access25.dataOf Access25.readOf Access25.inputsAfter Access25.writeOf
 all-come = refl
 
 pub catalogued : Demands.Catalogued

@@ -88,19 +88,19 @@ Shows22 (T2-wraps-unflagged-at n) = Wraps2 n
 
 -- a step: a call, and then the byte that it gave, whether the interrupt is asserted, and what the active interrupt register shows
 infix 20 _gives_asserted_shows_
-pub data Step : Type 0 where
-  _gives_asserted_shows_ : Call25 → ℕ → Bool → ℕ → Step
+pub data Step25 : Type 0 where
+  _gives_asserted_shows_ : Call25 → ℕ → Bool → ℕ → Step25
 
 -- the steps are made one after the other, none is refused, and each comes out so
-unfoldable pub Comes : List Step → Tpi → Type 0
-Comes [] v = Unit {0}
-Comes ((c gives byte asserted irq shows air) ∷ steps) v =
+unfoldable pub Shows25 : List Step25 → Tpi → Type 0
+Shows25 [] v = Unit {0}
+Shows25 ((c gives byte asserted irq shows air) ∷ steps) v =
     (Chip25.chip .Typed c)
     × (answer Chip25.chip c v .refusal ≡ 0)
     × (answer Chip25.chip c v .«data» ≡ byte)
     × (answer Chip25.chip c v .irq ≡ irq)
     × (airOf (next Chip25.chip c v) ≡ air)
-    × Comes steps (next Chip25.chip c v)
+    × Shows25 steps (next Chip25.chip c v)
 
 -- ---- the 6532
 
@@ -144,13 +144,13 @@ Shows45 (start s row r column c MA x) = Addresses s r c x
 
 pub data Case : Type 0 where
   on-6522 : List Call22 → Outcome22 → Case
-  on-6525 : List Call25 → List Step → Case
+  on-6525 : List Call25 → List Step25 → Case
   on-6532 : List Call32 → Outcome32 → Case
   on-6545 : List Call45 → Outcome45 → Case
 
 -- from power-up the calls lead, none refused, to the outcome
 abbrev pub Holds : Case → Type 0
 Holds (on-6522 calls o) = Leads Chip22.chip (Shows22 o) calls (Chip22.chip .powerUp)
-Holds (on-6525 calls steps) = Leads Chip25.chip (Comes steps) calls (Chip25.chip .powerUp)
+Holds (on-6525 calls steps) = Leads Chip25.chip (Shows25 steps) calls (Chip25.chip .powerUp)
 Holds (on-6532 calls o) = Leads Chip32.chip (Shows32 o) calls (Chip32.chip .powerUp)
 Holds (on-6545 calls o) = Leads Chip45.chip (Shows45 o) calls (Chip45.chip .powerUp)

@@ -88,8 +88,8 @@ read-air = Tpi.Read 7
 abbrev pub write-air : Call25
 write-air = Tpi.Write 7 0
 
--- A: I1 is served, and then it can interrupt again. B: I2 comes while I1 is served, and I1's service goes on when that of I2 has ended: I0 has to
--- wait for its end. C: I0 comes while I1 is served, and waits.
+-- A: I1 is served, and can then interrupt again. B: I2 comes while I1 is served, and after I2's service that of I1 goes on; I0 waits until it has
+-- ended. C: I0 comes while I1 is served, and waits.
 unfoldable pub catalogue : List Case
 catalogue =
     on-6525 with-priority (

@@ -20,6 +20,10 @@ silent p = record { output = 0; outside = p .outside; ddr = 0 }
 abbrev pub fresh : Port
 fresh = record { output = 0; outside = 255; ddr = 0 }
 
+-- new levels outside
+abbrev pub under : ℕ → Port → Port
+under levels p = record { output = p .output; outside = levels; ddr = p .ddr }
+
 -- an edge from the old level to the new: a rise from 0 to 1, or a fall from 1 to 0
 abbrev pub edge : Bool → Bool → Bool → Bool
 edge rising old new = if rising then not old && new else old && not new

@@ -1,4 +1,4 @@
-// A port of eight lines, as the 6522 and the 6532 have two of, and the edges of a level.
+// A port of eight lines, as the 6522 and the 6532 have two of and the 6525 three, and the edges of a level.
 ghost use mathlib.Core.Path.{_≡_};
 ghost use Rattle.ports.specs.Ports.{fresh, silent as silentOf, linesFor, linesOf, edge as edgeOf};
 

@@ -2,7 +2,7 @@
 use mathlib.Core.Bool.{_||_}
 use Prim.Native.Nat.{ℕ}
 use Rattle.clocks.specs.Bits.{bit}
-use Rattle.ports.specs.Ports.{edge}
+use Rattle.ports.specs.Ports.{edge, under}
 use Rattle.riot6532.specs.Record.{beside}
 use Rattle.riot6532.specs.declared.Io.{Io}
 use Rattle.riot6532.specs.declared.Riot.{Riot}
@@ -11,8 +11,8 @@ use Rattle.riot6532.specs.declared.Riot.{Riot}
 abbrev pub ioPinned : ℕ → ℕ → Io → Io
 ioPinned pa pb io =
     record {
-      a = record { output = io .a .output; outside = pa; ddr = io .a .ddr };
-      b = record { output = io .b .output; outside = pb; ddr = io .b .ddr };
+      a = under pa (io .a);
+      b = under pb (io .b);
       timer = io .timer;
       pa7 =
           record {

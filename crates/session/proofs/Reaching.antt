@@ -37,6 +37,7 @@ record Reached (b : Bench) : Type 0 where
   riot : Chips.Reached Chip32.chip (b .riot)
   crtc : Chips.Reached Chip45.chip (b .crtc)
 
+-- the chip that is called is one call further, and the others are as they were
 reached-step : (b : Bench) (f : Frame) → Frames.Typed f → Reached b → Reached (stepOf b f .bench)
 unfolding stepOf
 reached-step b Unknown t r = r
@@ -82,7 +83,8 @@ number-replied n k l d x = go (eqb n 0) refl
     go true e = told-none k l d x ∙ sym (eqb-true n 0 e)
     go false e = refl
 
--- it is 2 for what is no frame, and else that of the answer of a chip, which is a reached one if those of the bench are
+-- where a reply's number is from: 2 is for what is no frame, and any other is the answer's of some chip, whose record is reached if those of the
+-- bench are
 data Says (b : Bench) : Frame → ℕ → Type 1 where
   of-none : Says b Unknown 2
   of-chip :

@@ -1,6 +1,6 @@
 -- The statements of specs/Demands.antt, proved.
 use mathlib.Core.Path.{_≡_, refl, sym, ap, _∙_}
-use mathlib.Core.Bool.{true, not, _&&_, _||_, and-true, or-false}
+use mathlib.Core.Bool.{true, false, not, _&&_, _||_, and-true, or-false}
 use mathlib.Core.Logic.{_↔_}
 use Prim.Native.Nat.{ℕ}
 use native.Mathlib.Omega.{arith}
@@ -15,10 +15,10 @@ use Rattle.inputs.specs.declared.Inputs.{Inputs}
 use Rattle.inputs.proofs.Demands as Inputs
 use Rattle.tpi6525.specs.Record.{withInputs}
 use Rattle.tpi6525.specs.Signals.{airOf}
-use Rattle.tpi6525.specs.Access.{dataOf, readOf, inputsAfter, storedOf}
+use Rattle.tpi6525.specs.Access.{dataOf, readOf, inputsAfter, writeOf}
 use Rattle.tpi6525.specs.Chip.{chip, clocked}
 use Rattle.tpi6525.specs.Demands
-use Rattle.tpi6525.specs.Demands.{RaisedIn, air}
+use Rattle.tpi6525.specs.Demands.{RaisedIn, airRead}
 use Rattle.tpi6525.specs.declared.Tpi.{Tpi}
 use Rattle.tpi6525.specs.declared.Answer.{Answer}
 use Rattle.tpi6525.proofs.Lawful.{leaves-well, lawful, ticks}
@@ -44,8 +44,8 @@ interrupt-exact c v =
     (λ w n z. absurd (n z))
     (λ w n z. let u = chip .leaves c v in Inputs.asserted-exact (u .cr) (u .c .ddr) (u .inputs) (leaves-well c v w))
 
--- what a read of the active interrupt register shows of a well-formed record, and of any in a mode without one
-air-is : (v : Tpi) → chip .well v ≡ true → air v ≡ airOf v
+-- what a read of the active interrupt register shows of a well-formed record
+air-is : (v : Tpi) → chip .well v ≡ true → airRead v ≡ airOf v
 unfolding dataOf
 air-is v w = ap (λ (r : Answer). r .«data») (accepts-well chip lawful (Read 7) v w refl)
 
@@ -63,7 +63,7 @@ air-none v m =
 
 -- what holds of the read that takes what it shows, and of one that shows 0 and changes nothing, holds of every read
 module _ (v : Tpi) (P : ℕ → Tpi → Type 0) where
-  air-read : P (airOf v) (withInputs (taken (airOf v) (v .inputs)) v) → P 0 v → P (air v) (answer chip (Read 7) v .tpi)
+  air-read : P (airOf v) (withInputs (taken (airOf v) (v .inputs)) v) → P 0 v → P (airRead v) (answer chip (Read 7) v .tpi)
   unfolding dataOf readOf
   air-read p q = by-refusal chip lawful (Read 7) v (λ r. P (r .«data») (r .tpi)) (λ w. q) (λ w z. q) (λ w z. p)
 
@@ -87,13 +87,19 @@ air-idle v =
     (λ z. ap (λ (i : Inputs). withInputs i v) (ap (λ (s : ℕ). taken s (v .inputs)) z ∙ Inputs.taken-none (v .inputs)))
     (λ z. refl)
 
+pub air-releases : Demands.Air-releases
+unfolding readOf
+air-releases v =
+    by-refusal chip lawful (Read 7) v (λ r. r .irq ≡ false) (λ w. refl) (λ w z. refl)
+    (λ w z. Inputs.taken-releases (v .cr) (v .c .ddr) (v .inputs) w)
+
 pub air-ends : Demands.Air-ends
-unfolding storedOf inputsAfter
+unfolding writeOf inputsAfter
 air-ends v x w = ap (λ (r : Answer). r .tpi) (accepts-well chip lawful (Write 7 x) v w refl)
 
 -- a write of a register that the inputs do not hear of
 other-leaves : (v : Tpi) (r x : ℕ) → inputsAfter r x v ≡ v .inputs → answer chip (Write r x) v .tpi .inputs ≡ v .inputs
-unfolding storedOf
+unfolding writeOf
 other-leaves v r x e =
     by-refusal chip lawful (Write r x) v (λ r. r .tpi .inputs ≡ v .inputs) (λ w. refl) (λ w z. refl) (λ w z. e)
 

@@ -11,7 +11,7 @@ use Rattle.inputs.specs.Inputs.{wellInputs}
 use Rattle.inputs.specs.declared.Inputs.{Inputs}
 use Rattle.inputs.proofs.Demands.{stays-well}
 use Rattle.tpi6525.specs.Record.{wellFormed}
-use Rattle.tpi6525.specs.Access.{readOf, inputsAfter, storedOf}
+use Rattle.tpi6525.specs.Access.{readOf, inputsAfter, writeOf}
 use Rattle.tpi6525.specs.Chip.{asksOf, leavesOf, chip, clocked}
 use Rattle.tpi6525.specs.declared.Tpi.{Tpi}
 
@@ -23,7 +23,7 @@ operands (Pins pa pb pc) v = operands-none
 operands (Run n) v = operands-none
 
 pub leaves-well : (c : Call25) (v : Tpi) → wellFormed v ≡ true → wellFormed (leavesOf c v) ≡ true
-unfolding readOf storedOf inputsAfter
+unfolding readOf writeOf inputsAfter
 leaves-well Reset v w = stays-well .at-reset
 leaves-well (Write r x) v w =
     picked (λ (i : Inputs). wellInputs i ≡ true) (eqb r 2)

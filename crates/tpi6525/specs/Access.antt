@@ -34,7 +34,7 @@ readOf r v = if eqb r 7 then withInputs (taken (airOf v) (v .inputs)) v else v
 
 -- ---- writes
 
--- a write of port C is one to the latch in interrupt mode; a write of register 7 ends service
+-- a write of port C goes to the latch in interrupt mode; a write of register 7 ends service
 unfoldable pub inputsAfter : ℕ → ℕ → Tpi → Inputs
 inputsAfter r x v =
     if eqb r 2 then kept (v .cr) x (v .inputs) else
@@ -42,8 +42,8 @@ inputsAfter r x v =
     v .inputs
 
 -- each other register keeps the byte, port C's output byte out of interrupt mode only; a write of CR or of port C's direction byte leaves the inputs
-unfoldable pub storedOf : ℕ → ℕ → Tpi → Tpi
-storedOf r x v =
+unfoldable pub writeOf : ℕ → ℕ → Tpi → Tpi
+writeOf r x v =
     record {
       a =
           record {

@@ -8,7 +8,7 @@ use Rattle.chips.specs.Chips.{Chip, Clocked}
 use Rattle.ports.specs.Ports.{linesOf}
 use Rattle.tpi6525.specs.Record.{wellFormed, powerUp, resetOf}
 use Rattle.tpi6525.specs.Signals.{irqOf, linesC}
-use Rattle.tpi6525.specs.Access.{registerAsks, dataOf, readOf, storedOf}
+use Rattle.tpi6525.specs.Access.{registerAsks, dataOf, readOf, writeOf}
 use Rattle.tpi6525.specs.Pins.{pinsOf}
 use Rattle.tpi6525.specs.declared.Tpi.{Tpi}
 use Rattle.tpi6525.specs.declared.Answer.{Answer}
@@ -31,7 +31,7 @@ givesOf (Run n) v = 0
 
 abbrev pub leavesOf : Call25 → Tpi → Tpi
 leavesOf Reset v = resetOf v
-leavesOf (Write r x) v = storedOf r x v
+leavesOf (Write r x) v = writeOf r x v
 leavesOf (Read r) v = readOf r v
 leavesOf (Pins pa pb pc) v = pinsOf pa pb pc v
 leavesOf (Run n) v = v

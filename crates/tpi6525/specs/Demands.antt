@@ -40,8 +40,8 @@ Interrupt-exact =
 
 -- ---- the active interrupt register: the byte that a read gives, and what is left then
 
-abbrev pub air : Tpi → ℕ
-air v = answer chip (Read 7) v .«data»
+abbrev pub airRead : Tpi → ℕ
+airRead v = answer chip (Read 7) v .«data»
 
 abbrev pub ThroughIn : Tpi → ℕ → Type 0
 ThroughIn v = Through (v .c .ddr) (v .inputs)
@@ -50,21 +50,21 @@ ThroughIn v = Through (v .c .ddr) (v .inputs)
 abbrev pub Air-highest : Type 0
 Air-highest =
     (v : Tpi) (k : ℕ) → wellFormed v ≡ true → interrupts (v .cr) ≡ true → priority (v .cr) ≡ true
-    → (bit k (air v) ≡ true) ↔ (ThroughIn v k × ((j : ℕ) → k < j → ThroughIn v j → ⊥))
+    → (bit k (airRead v) ≡ true) ↔ (ThroughIn v k × ((j : ℕ) → k < j → ThroughIn v j → ⊥))
 
 -- without it exactly where the input is latched and not masked; out of interrupt mode nowhere
 abbrev pub Air-all : Type 0
 Air-all =
     (v : Tpi) (k : ℕ) → wellFormed v ≡ true → interrupts (v .cr) ≡ true → priority (v .cr) ≡ false
-    → (bit k (air v) ≡ true) ↔ ThroughIn v k
+    → (bit k (airRead v) ≡ true) ↔ ThroughIn v k
 
 abbrev pub Air-none : Type 0
-Air-none = (v : Tpi) → interrupts (v .cr) ≡ false → air v ≡ 0
+Air-none = (v : Tpi) → interrupts (v .cr) ≡ false → airRead v ≡ 0
 
 -- the read takes what it gave out of the latch and into service, and leaves all else
 pub record Air-takes (v : Tpi) : Type 0 where
-  pub from-latch : (k : ℕ) → bit k (next chip (Read 7) v .inputs .latch) ≡ (bit k (v .inputs .latch) && not (bit k (air v)))
-  pub into-service : (k : ℕ) → bit k (next chip (Read 7) v .inputs .service) ≡ (bit k (v .inputs .service) || bit k (air v))
+  pub from-latch : (k : ℕ) → bit k (next chip (Read 7) v .inputs .latch) ≡ (bit k (v .inputs .latch) && not (bit k (airRead v)))
+  pub into-service : (k : ℕ) → bit k (next chip (Read 7) v .inputs .service) ≡ (bit k (v .inputs .service) || bit k (airRead v))
   pub nothing-else : next chip (Read 7) v ≡ withInputs (next chip (Read 7) v .inputs) v
 
 abbrev pub Air-taken : Type 0
@@ -72,7 +72,11 @@ Air-taken = (v : Tpi) → Air-takes v
 
 -- one that gives 0, refused ones among them, changes nothing
 abbrev pub Air-idle : Type 0
-Air-idle = (v : Tpi) → air v ≡ 0 → next chip (Read 7) v ≡ v
+Air-idle = (v : Tpi) → airRead v ≡ 0 → next chip (Read 7) v ≡ v
+
+-- the interrupt is not asserted after a read of it
+abbrev pub Air-releases : Type 0
+Air-releases = (v : Tpi) → answer chip (Read 7) v .irq ≡ false
 
 -- a write of it ends service, whatever the byte, and changes nothing else
 abbrev pub Air-ends : Type 0

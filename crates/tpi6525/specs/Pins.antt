@@ -1,12 +1,8 @@
 -- The levels outside.
 use Prim.Native.Nat.{ℕ}
 use Rattle.inputs.specs.Inputs.{pinned}
-use Rattle.ports.specs.declared.Port.{Port}
+use Rattle.ports.specs.Ports.{under}
 use Rattle.tpi6525.specs.declared.Tpi.{Tpi}
-
--- a port under new levels
-abbrev pub under : ℕ → Port → Port
-under levels p = record { output = p .output; outside = levels; ddr = p .ddr }
 
 -- the new levels are taken over; those of port C are the inputs', whose edges are from the levels before the call, whatever the directions
 abbrev pub pinsOf : ℕ → ℕ → ℕ → Tpi → Tpi

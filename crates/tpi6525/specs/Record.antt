@@ -13,10 +13,10 @@ wellFormed v = wellInputs (v .inputs)
 abbrev pub withInputs : Inputs → Tpi → Tpi
 withInputs i v = record { a = v .a; b = v .b; c = v .c; cr = v .cr; inputs = i }
 
--- a reset clears output and direction bytes, CR, latch and service; the levels outside stay
+-- after a reset no line is driven, CR is 0, and nothing is latched or in service; the levels outside are as before
 abbrev pub resetOf : Tpi → Tpi
 resetOf v = record { a = silent (v .a); b = silent (v .b); c = silent (v .c); cr = 0; inputs = idle }
 
--- at power-up the ports are at their own, and the rest is as after a reset
+-- at power-up the ports are at their own power-up, and the rest is as after a reset
 abbrev pub powerUp : Tpi
 powerUp = record { a = fresh; b = fresh; c = fresh; cr = 0; inputs = idle }

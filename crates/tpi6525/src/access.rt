@@ -1,6 +1,6 @@
 // The eight registers: what a read gives, and what a write stores.
 ghost use mathlib.Core.Path.{_≡_};
-ghost use Rattle.tpi6525.specs.Access.{dataOf, inputsAfter, storedOf};
+ghost use Rattle.tpi6525.specs.Access.{dataOf, inputsAfter, writeOf};
 use crate::Tpi;
 use clocks::bit;
 use clocks::choose8;
@@ -35,7 +35,7 @@ impl Tpi {
     }
 
     pub(crate) fn stored(mut self, register: u8, value: u8) -> Tpi
-        ensures { λ r. ⌜ r ≡ storedOf register value self ⌝ }
+        ensures { λ r. ⌜ r ≡ writeOf register value self ⌝ }
     {
         let plain_c = (register == 2) & !bit(0, self.cr);
         let inputs = self.inputs_after(register, value);

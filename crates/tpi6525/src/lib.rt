@@ -34,7 +34,9 @@ pub struct Answer {
 }
 
 impl Tpi {
-    // The highest register, AIR. An access above it is refused.
+    // The active interrupt register, and the highest register: an access above it is refused.
+    pub const AIR: u8 = 7;
+
     pub const LAST_REGISTER: u8 = 7;
 
     pub fn power_up() -> Tpi
@@ -114,7 +116,7 @@ impl Tpi {
             return self.refused(number);
         }
         let data = self.data(register);
-        if register != Tpi::LAST_REGISTER {
+        if register != Tpi::AIR {
             return self.accepted(data);
         }
         self.inputs = self.inputs.taken(data);

@@ -4,7 +4,7 @@ use Prim.Native.Nat.{ℕ}
 use lib.Dec.{ltb}
 use Rattle.clocks.specs.Clocks.{if_then_else_}
 use Rattle.clocks.specs.Bits.{bit, withBit}
-use Rattle.ports.specs.Ports.{edge, linesFor}
+use Rattle.ports.specs.Ports.{edge, linesFor, under}
 use Rattle.flags.specs.Flags.{raised, keepsA, keepsB}
 use Rattle.timers.specs.Second as Second
 use Rattle.timers.specs.declared.T2.{T2}
@@ -48,9 +48,9 @@ withPulse t v =
 unfoldable pub settled : ℕ → ℕ → ℕ → Via → Via
 settled pa pb control v =
     record {
-      a = record { output = v .a .output; outside = pa; ddr = v .a .ddr };
+      a = under pa (v .a);
       «kept_a» = if keepsA (v .pcr) (v .control) control (v .ifr) then linesFor pa (v .a) else v .«kept_a»;
-      b = record { output = v .b .output; outside = pb; ddr = v .b .ddr };
+      b = under pb (v .b);
       «kept_b» = if keepsB (v .pcr) (v .control) control (v .ifr) then linesB pb v else v .«kept_b»;
       t1 = v .t1;
       t2 = v .t2;

@@ -1,10 +1,10 @@
 use borrow.Author.Needs.{needs}
-use Rattle.tpi6525.specs.Access.{storedOf}
+use Rattle.tpi6525.specs.Access.{writeOf}
 use Rattle.tpi6525.proofs.Tpi.stored.Statement.{statement}
 use Rattle.tpi6525.proofs.Tpi.stored.Tie as tie
 
 returns : tie.Need-returns
-unfolding storedOf
+unfolding writeOf
 returns c =
     let d = c .before .before .before .before .before .before in
     let e = d .before .before .before in
