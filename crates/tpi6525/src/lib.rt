@@ -34,9 +34,10 @@ pub struct Answer {
 }
 
 impl Tpi {
-    // The active interrupt register, and the highest register: an access above it is refused.
+    // The active interrupt register.
     pub const AIR: u8 = 7;
 
+    // The highest register: an access above it is refused.
     pub const LAST_REGISTER: u8 = 7;
 
     pub fn power_up() -> Tpi
