@@ -795,7 +795,7 @@ def tpi_lines():
             yield from (pins(TPI, *levels), *reads(TPI, PRA, PRB, PRC), write(TPI, CR, cr ^ MODE), *reads(TPI, PRA, PRB, PRC),
                         write(TPI, CR, cr))
     # In interrupt mode bit 5 is the interrupt pin, whatever stands outside, in the output byte or in the direction. The
-    # other lines are the outside levels: CA and CB are left out, so no access and no edge drives PC6 or PC7.
+    # other lines show what is outside: without CA and CB no access and no edge drives PC6 or PC7.
     for bits, output, direction in ((0, 0x00, 0x1F), (1, 0xFF, 0xFF), (2, 0xFF, 0x1F), (3, 0x00, 0xFF)):
         yield from (*clean_tpi(cr=0, mask=direction), write(TPI, PRC, output), write(TPI, CR, bits * 0x50 | MODE))
         for upper in (0x00, 0xE0):
@@ -884,7 +884,7 @@ def tpi_extras():
                 *falls(1))
     # The same input twice: one write ends it.
     yield from (*clean_tpi(), *falls(4), read(TPI, AIR), *falls(4), *reads(TPI, AIR, AIR, PRC), *falls(2), *ended())
-    # A read that shows 0 changes nothing: with nothing latched, with all of it masked, and with the mode off.
+    # Reads of AIR that give 0 and do nothing: with nothing latched, with all of it masked, and with the mode off.
     yield from (*clean_tpi(), read(TPI, AIR), *falls(2), *reads(TPI, AIR, AIR), *falls(0x11), write(TPI, MASK, 0x0E),
                 *reads(TPI, AIR, AIR), write(TPI, CR, PRIORITY), *reads(TPI, AIR, PRC), write(TPI, CR, MODE | PRIORITY), *falls(2),
                 write(TPI, MASK, 0x0F), *ended(), *reads(TPI, AIR, AIR, AIR), *ended(), *ended(), write(TPI, MASK, INPUTS),
