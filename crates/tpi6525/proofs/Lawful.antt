@@ -11,7 +11,7 @@ use Rattle.inputs.specs.Inputs.{wellInputs}
 use Rattle.inputs.specs.declared.Inputs.{Inputs}
 use Rattle.inputs.proofs.Demands.{stays-well}
 use Rattle.tpi6525.specs.Record.{wellFormed}
-use Rattle.tpi6525.specs.Access.{readOf, inputsAfter, writeOf}
+use Rattle.tpi6525.specs.Access.{takes, readOf, ends, inputsAfter, writeOf}
 use Rattle.tpi6525.specs.Chip.{asksOf, leavesOf, chip, clocked}
 use Rattle.tpi6525.specs.declared.Tpi.{Tpi}
 
@@ -28,9 +28,9 @@ leaves-well Reset v w = stays-well .at-reset
 leaves-well (Write r x) v w =
     picked (λ (i : Inputs). wellInputs i ≡ true) (eqb r 2)
     (stays-well .by-write (v .cr) x (v .inputs) w)
-    (picked (λ (i : Inputs). wellInputs i ≡ true) (eqb r 7) (stays-well .by-end (v .cr) (v .inputs) w) w)
+    (picked (λ (i : Inputs). wellInputs i ≡ true) (ends r) (stays-well .by-end (v .cr) (v .inputs) w) w)
 leaves-well (Read r) v w =
-    picked (λ (u : Tpi). wellFormed u ≡ true) (eqb r 7) (stays-well .by-read (v .cr) (v .c .ddr) (v .inputs) w) w
+    picked (λ (u : Tpi). wellFormed u ≡ true) (takes r) (stays-well .by-read (v .cr) (v .c .ddr) (v .inputs) w) w
 leaves-well (Pins pa pb pc) v w = stays-well .by-pins (v .cr) (v .c .outside) pc (v .inputs) w
 leaves-well (Run n) v w = w
 

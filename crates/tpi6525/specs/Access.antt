@@ -1,5 +1,5 @@
 -- The eight registers: what is refused, what a read gives and leaves, and what a write leaves.
-use mathlib.Core.Bool.{not, _&&_}
+use mathlib.Core.Bool.{Bool, not, _&&_}
 use Prim.Native.Nat.{ℕ}
 use lib.Dec.{eqb, ltb}
 use Rattle.clocks.specs.Clocks.{if_then_else_}
@@ -28,17 +28,24 @@ dataOf r v =
     if eqb r 6 then v .cr else
     airOf v
 
--- what register 7 shows is taken; no other read has an effect
+-- a read of register 7 takes what it shows, and no other read has an effect
+abbrev pub takes : ℕ → Bool
+takes r = eqb r 7
+
 unfoldable pub readOf : ℕ → Tpi → Tpi
-readOf r v = if eqb r 7 then withInputs (taken (airOf v) (v .inputs)) v else v
+readOf r v = if takes r then withInputs (taken (airOf v) (v .inputs)) v else v
 
 -- ---- writes
 
--- a write of port C goes to the latch in interrupt mode; a write of register 7 ends service
+-- a write of register 7 ends service
+abbrev pub ends : ℕ → Bool
+ends r = eqb r 7
+
+-- and one of port C goes to the latch, in interrupt mode
 unfoldable pub inputsAfter : ℕ → ℕ → Tpi → Inputs
 inputsAfter r x v =
     if eqb r 2 then kept (v .cr) x (v .inputs) else
-    if eqb r 7 then ended (v .cr) (v .inputs) else
+    if ends r then ended (v .cr) (v .inputs) else
     v .inputs
 
 -- each other register keeps the byte, port C's output byte out of interrupt mode only; a write of CR or of port C's direction byte leaves the inputs

@@ -1,10 +1,13 @@
 use borrow.Author.Needs.{needs}
 use borrow.Author.Tests.{ne-eqb}
-use mathlib.Core.Path.{_∙_, sym}
+use mathlib.Core.Path.{_∙_, ap₂, sym}
+use Prim.Native.Nat.{ℕ}
+use Rattle.clocks.proofs.Tests.{on-false}
 use Rattle.chips.proofs.Chips.{accepts, refuses}
 use Rattle.calls.specs.declared.Call25.the-variants.{Read}
-use Rattle.tpi6525.specs.Access.{dataOf, readOf}
-use Rattle.tpi6525.specs.Chip.{chip}
+use Rattle.tpi6525.specs.Access.{dataOf, takes, readOf}
+use Rattle.tpi6525.specs.Chip.{chip, accepted}
+use Rattle.tpi6525.specs.declared.Tpi.{Tpi}
 use Rattle.tpi6525.proofs.Tpi.read.Statement.{statement}
 use Rattle.tpi6525.proofs.Tpi.read.Tie as tie
 
@@ -15,8 +18,11 @@ returns-2 : tie.Need-returns-2
 unfolding readOf
 returns-2 c =
     let d = c .before .before in
+    let s = d .before .before .before in
+    let v = s .args .self in
+    let a = s .args .register in
     c .accepted .ensures
-    ∙ (rw (d .data .ensures, ne-eqb _ 7 (c .before .if2 .taken)))
+    ∙ ap₂ (λ (x : ℕ) (u : Tpi). accepted x u) (d .data .ensures) (sym (on-false (takes a) _ v (ne-eqb a 7 (c .before .if2 .taken))))
     ∙ sym (accepts chip (Read _) _ _ (d .before .before .access-refusal .ensures) (d .before .if1 .left))
 
 returns-3 : tie.Need-returns-3
