@@ -1,6 +1,6 @@
 -- Bytes by their bits: and, or, not, a mask, and that the bits settle the number. Widths other than 8 are other n.
 use mathlib.Core.Path.{◌≡◌, refl, sym, ap, ap₂, ◌∙◌}
-use mathlib.Core.Bool.{Bool, true, false, not, ◌||◌, ◌&&◌, or_true, or-false, and-true, and-false, true≢false, false≢true}
+use mathlib.Core.Bool.{Bool, true, false, not, ◌||◌, ◌&&◌, or-true, or-false, and-true, and-false, true≢false, false≢true}
 use Prim.Native.Nat.{ℕ, zero, suc, ◌+◌, ◌-◌, ◌/◌, ◌%◌, ◌^◌, ◌<◌, ◌≤◌, min, zero-le}
 use native.Mathlib.Nat.{pow-suc, pow-succ', div-one, div-div-eq-div-mul, div-eq_of_lt}
 use native.Mathlib.Decide.{ℕ_discrete}
@@ -194,7 +194,7 @@ bit_with k true j x =
     bit_set j (2 ^ k) x ∙ ap (λ (q : Bool). bit j x || q) (bit_power k j) ∙ go (eqb j k)
   where
     go : (q : Bool) → (bit j x || q) ≡ (if q then true else bit j x)
-    go true = or_true (bit j x)
+    go true = or-true (bit j x)
     go false = or-false (bit j x)
 bit_with k false j x =
     bit_clear j (2 ^ k) x ∙ ap (λ (q : Bool). bit j x && not q) (bit_power k j) ∙ go (eqb j k)
@@ -314,7 +314,7 @@ shares_by (suc n) x y k l p q = go (λ h. shares_by n x y k h p q) (ℕ_discrete
         let a : bit n x ≡ true = rw e at p in
         let b : bit n y ≡ true = rw e at q in
         rw (a, b)
-    go below (no e) = rw (below (omega arith)) (or_true (bit n x && bit n y))
+    go below (no e) = rw (below (omega arith)) (or-true (bit n x && bit n y))
 
 -- a bit of x by itself: it is shared where y has it, and else the others decide
 pub shares_with :

@@ -1,6 +1,6 @@
 -- What a forecast says of every number of clocks settles it.
 use mathlib.Core.Path.{◌≡◌, refl, sym, ap, ◌∙◌}
-use mathlib.Core.Bool.{Bool, true, false, ◌||◌, ◌&&◌, or_true, or-false, and-true, and-false, true≢false, false≢true}
+use mathlib.Core.Bool.{Bool, true, false, ◌||◌, ◌&&◌, or-true, or-false, and-true, and-false, true≢false, false≢true}
 use mathlib.Core.Logic.{◌↔◌}
 use Prim.Native.Nat.{ℕ, zero, suc, ◌+◌, ◌-◌, ◌<◌, ◌≤◌}
 use native.Mathlib.Nat.{le_refl}
@@ -60,7 +60,7 @@ sooner_comes (In x) (In y) k = go (dec_le x y) (dec_le x k) (dec_le y k)
     go : Dec (x ≤ y) → Dec (x ≤ k) → Dec (y ≤ k) → comes (if leb x y then In x else In y) k ≡ (leb x k || leb y k)
     go (yes p) (yes q) d = rw (le-leb x y p, le-leb x k q)
     go (yes p) (no q) d = rw (le-leb x y p, lt-leb x k (omega arith), lt-leb y k (omega arith))
-    go (no p) d (yes q) = rw (lt-leb x y (omega arith), le-leb y k q) (sym (or_true (leb x k)))
+    go (no p) d (yes q) = rw (lt-leb x y (omega arith), le-leb y k q) (sym (or-true (leb x k)))
     go (no p) d (no q) = rw (lt-leb x y (omega arith), lt-leb y k (omega arith), lt-leb x k (omega arith))
 
 -- a forecast behind an enable
@@ -70,7 +70,7 @@ gate_comes false f k = sym (and-false (comes f k))
 
 -- what is set already, or will be as forecast
 pub stood_comes : (b : Bool) (f : Forecast) (k : ℕ) → (comes f k || b) ≡ comes (if b then In 0 else f) k
-stood_comes true f k = or_true (comes f k) ∙ sym (leb-zero k)
+stood_comes true f k = or-true (comes f k) ∙ sym (leb-zero k)
 stood_comes false f k = or-false (comes f k)
 
 -- a forecast that is never, or at most n

@@ -1,6 +1,6 @@
 -- The statements of specs/Demands.antt, proved.
 use mathlib.Core.Path.{◌≡◌, refl, sym, ap, ◌∙◌}
-use mathlib.Core.Bool.{Bool, true, false, not, ◌&&◌, ◌||◌, or_true, or-false, and-true, and-false}
+use mathlib.Core.Bool.{Bool, true, false, not, ◌&&◌, ◌||◌, or-true, or-false, and-true, and-false}
 use Prim.Native.Nat.{ℕ, ◌%◌, ◌^◌, ◌<◌, zero-le}
 use native.Mathlib.Omega.{arith}
 use lib.Dec.{eqb, lit<}
@@ -45,9 +45,9 @@ bit_edge k false j x = sym (ap (λ (q : Bool). bit j x || q) (and-false (eqb j k
 -- in the order of the lines, not of the edges
 turned : (x a b c d : Bool) → ((((x || d) || c) || b) || a) ≡ (x || (a || (b || (c || d))))
 turned true a b c d = refl
-turned false true b c d = or_true (d || c || b)
-turned false false true c d = or-false (d || c || true) ∙ or_true (d || c)
-turned false false false true d = or-false (d || true || false) ∙ or-false (d || true) ∙ or_true d
+turned false true b c d = or-true (d || c || b)
+turned false false true c d = or-false (d || c || true) ∙ or-true (d || c)
+turned false false false true d = or-false (d || true || false) ∙ or-false (d || true) ∙ or-true d
 turned false false false false d = or-false (d || false || false) ∙ or-false (d || false) ∙ or-false d
 
 pub raised_by_bit : Demands.RaisedByBit
@@ -81,7 +81,7 @@ enabled_by_bit k x ier h = go (bit 7 x) ∙ ap (λ (q : Bool). if q then bit 7 x
     named = bit k (x % 128)
 
     chosen : (q : Bool) (b : Bool) → (q || b) ≡ (if b then true else q)
-    chosen q true = or_true q
+    chosen q true = or-true q
     chosen q false = or-false q
 
     left : (q : Bool) (b : Bool) → (q && not b) ≡ (if b then false else q)

@@ -1,6 +1,6 @@
 -- The statements of specs/Demands.antt, proved.
 use mathlib.Core.Path.{◌≡◌, refl, sym, ap, ap₂, ◌∙◌}
-use mathlib.Core.Bool.{Bool, true, false, not, ◌&&◌, ◌||◌, and-true, or_true, or-false, true≢false, false≢true}
+use mathlib.Core.Bool.{Bool, true, false, not, ◌&&◌, ◌||◌, and-true, or-true, or-false, true≢false, false≢true}
 use mathlib.Core.Logic.{◌↔◌}
 use Prim.Native.Nat.{ℕ, ◌%◌, ◌<◌, ◌^◌}
 use native.Mathlib.Decide.{dec_lt, ℕ_discrete}
@@ -187,7 +187,7 @@ module _ (cr mask : ℕ) (v : Inputs) (w : well_inputs v ≡ true) (k : ℕ) whe
         h.0,
         bit_set h.0 (shown cr mask v) v.service
             ∙ ap (λ (b : Bool). bit h.0 v.service || b) seen_one
-            ∙ or_true (bit h.0 v.service),
+            ∙ or-true (bit h.0 v.service),
         λ l. true≢false (sym b ∙ top_above h.2 l),
       )
 

@@ -1,6 +1,6 @@
 -- Clocks move only the timer; so the timer says when the interrupt line is asserted.
 use mathlib.Core.Path.{◌≡◌, refl, sym, ap, ap₂, ◌∙◌}
-use mathlib.Core.Bool.{Bool, true, false, ◌&&◌, ◌||◌, or_true}
+use mathlib.Core.Bool.{Bool, true, false, ◌&&◌, ◌||◌, or-true}
 use mathlib.Core.Logic.{◌⊎◌, ◌↔◌, inl, inr, ⊎_elim}
 use Prim.Native.Nat.{ℕ}
 use lib.Dec.{leb-zero}
@@ -61,4 +61,4 @@ raised io = (there, back)
 
     back : Raised io → irq_of io ≡ true
     back (inl x) = rw (x.0, x.1)
-    back (inr y) = rw (y.0, y.1) (or_true (io.timer.flag && io.timer.enable))
+    back (inr y) = rw (y.0, y.1) (or-true (io.timer.flag && io.timer.enable))
