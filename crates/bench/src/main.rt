@@ -1,4 +1,5 @@
 // The program: standard input is a session, standard output its answers.
+#![tactic(auto)]
 ghost use Rattle.std.specs.Prelude.{◌≡◌, ◌+◌, ◌*◌, ◌≤◌, length, take};
 ghost use Rattle.turns.specs.Turns.{holding};
 ghost use Rattle.bench.specs.Turns.{gave as gaveOf, Turned, Ends};
@@ -8,7 +9,7 @@ use session::Bench;
 use turns::{Read, Went};
 
 // What the read gave, what came of it, and whether all that there was to write was written.
-#[derive(Drop)]
+#[derive(Clone, Copy)]
 struct Turn {
     read: Read,
     went: Went,
@@ -16,7 +17,7 @@ struct Turn {
 }
 
 // How the turns ended: whether the last of them would go on, and how many there were.
-#[derive(Drop)]
+#[derive(Clone, Copy)]
 struct Ended {
     going: bool,
     turns: u64,

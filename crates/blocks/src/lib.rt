@@ -1,4 +1,5 @@
 // Sessions with repeats: what they come to, written out window by window, and which are refused.
+#![tactic(auto)]
 ghost use Rattle.std.specs.Prelude.{◌≡◌, List, ℕ, ◌≤◌, ◌<◌, ◌+◌, ◌-◌, ◌*◌, min, ltb, length, take, drop};
 ghost use Rattle.blocks.specs.Windows.{window as windowOf, note_of, notes, Last};
 ghost use Rattle.lines.specs.Written.{Written};
@@ -8,7 +9,7 @@ ghost use Rattle.blocks.specs.Judged.{refusal_of};
 ghost use Rattle.blocks.specs.Walks.{ThroughBlock, ThroughLine};
 
 // Where a walk has come to, and its window.
-#[derive(Drop)]
+#[derive(Clone, Copy)]
 struct Walked {
     at: usize,
     skip: usize,
@@ -16,7 +17,7 @@ struct Walked {
 }
 
 // What a window has come to, and how many repetitions brought it there.
-#[derive(Drop)]
+#[derive(Clone, Copy)]
 struct Repeated {
     skip: usize,
     used: usize,

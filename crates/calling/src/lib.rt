@@ -1,4 +1,5 @@
 // One call of a session on its chip: what is left of the chip, and the reply.
+#![tactic(auto)]
 ghost use Rattle.std.specs.Prelude.{◌≡◌, List, ℕ, ◌≤◌};
 ghost use Rattle.clocks.specs.Clocks.{if◌then◌else◌};
 ghost use Rattle.clocks.specs.Forecasts.{number_of};
@@ -14,26 +15,26 @@ use tpi6525::Tpi;
 use via6522::Via;
 
 // What a call leaves of one chip, and its reply.
-#[derive(Drop)]
+#[derive(Clone, Copy)]
 pub struct After22 {
     pub via: Via,
     pub reply: Reply,
 }
 
-#[derive(Drop)]
+#[derive(Clone, Copy)]
 pub struct After25 {
     pub tpi: Tpi,
     pub reply: Reply,
 }
 
 // The 6532's RAM is lent beside it.
-#[derive(Drop)]
+#[derive(Clone, Copy)]
 pub struct After32 {
     pub io: Io,
     pub reply: Reply,
 }
 
-#[derive(Drop)]
+#[derive(Clone, Copy)]
 pub struct After45 {
     pub crtc: Crtc,
     pub reply: Reply,

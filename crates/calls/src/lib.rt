@@ -1,7 +1,8 @@
 // The calls of the chips, with their operands: what a session line asks for, and what a chip answers. There is no code in it.
+#![tactic(auto)]
 
 // A call of the 6522.
-#[derive(Drop)]
+#[derive(Clone, Copy)]
 pub enum Call22 {
     Reset,
     Write(u8, u8),
@@ -12,7 +13,7 @@ pub enum Call22 {
 }
 
 // A call of the 6525.
-#[derive(Drop)]
+#[derive(Clone, Copy)]
 pub enum Call25 {
     Reset,
     Write(u8, u8),
@@ -22,7 +23,7 @@ pub enum Call25 {
 }
 
 // A call of the 6532.
-#[derive(Drop)]
+#[derive(Clone, Copy)]
 pub enum Call32 {
     Reset,
     Write(u8, u8),
@@ -33,7 +34,7 @@ pub enum Call32 {
 }
 
 // A call of the 6545; a run has a mark that says whether its turns are asked for.
-#[derive(Drop)]
+#[derive(Clone, Copy)]
 pub enum Call45 {
     Reset,
     Write(u8, u8),

@@ -1,11 +1,13 @@
 // What the chips of the bench share. Most of it is meaning (specs/) and laws (proofs/); the code is the forecast and the bits of a byte.
+#![tactic(auto)]
+
 ghost use Rattle.std.specs.Prelude.{◌≡◌};
 ghost use Rattle.clocks.specs.Clocks.{if◌then◌else◌};
 ghost use Rattle.clocks.specs.Forecasts.{number_of, sooner_of};
 ghost use Rattle.clocks.specs.Bits.{bit as bit_of, with_set, with_clear, gone as goneOf, merge as mergeOf, shares as shares_of};
 
 // When a flag is set or a line asserted: so many clocks from now, or never.
-#[derive(Drop)]
+#[derive(Clone, Copy)]
 pub enum Forecast {
     Never,
     In(u32),

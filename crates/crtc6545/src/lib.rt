@@ -1,4 +1,5 @@
 // The 6545: the raster of the screen, its lines as R8 shows them, and the light pen. A call takes the record and hands it back inside its answer.
+#![tactic(auto)]
 ghost use Rattle.std.specs.Prelude.{◌≡◌, true, false};
 ghost use Rattle.clocks.specs.Clocks.{if◌then◌else◌};
 ghost use Rattle.chips.specs.Chips.{answer};
@@ -14,7 +15,7 @@ mod clock;
 mod signals;
 
 // The light pen: where it was seen, whether that is new, its level, and a strobe that waits for a clock.
-#[derive(Drop)]
+#[derive(Clone, Copy)]
 pub struct Light {
     pub r16: u8,
     pub r17: u8,
@@ -24,13 +25,13 @@ pub struct Light {
 }
 
 // DE and CURSOR of the clock before.
-#[derive(Drop)]
+#[derive(Clone, Copy)]
 pub struct Kept {
     pub de: bool,
     pub cursor: bool,
 }
 
-#[derive(Drop)]
+#[derive(Clone, Copy)]
 pub struct Crtc {
     pub raster: Raster,
     pub address: u8,
@@ -39,7 +40,7 @@ pub struct Crtc {
 }
 
 // The answer to a call: its refusal's number or 0, the byte that it read, the lines and the record as it left them.
-#[derive(Drop)]
+#[derive(Clone, Copy)]
 pub struct Answer {
     pub refusal: u8,
     pub data: u8,
@@ -53,14 +54,14 @@ pub struct Answer {
 }
 
 // What a read gives back: the mark says that nothing drove the data.
-#[derive(Drop)]
+#[derive(Clone, Copy)]
 pub struct Reading {
     pub undriven: bool,
     pub answer: Answer,
 }
 
 // What a run gives back: its turns are the line ends that it passed and one more, and 0 where it is refused or has no clock.
-#[derive(Drop)]
+#[derive(Clone, Copy)]
 pub struct Running {
     pub turns: u64,
     pub answer: Answer,

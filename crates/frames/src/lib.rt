@@ -1,4 +1,5 @@
 // Which call a line of a session is: the byte of a chip, an operation's number and its operands, two digits a byte.
+#![tactic(auto)]
 ghost use Rattle.std.specs.Prelude.{◌≡◌, [], ◌∷◌};
 ghost use Rattle.frames.specs.Frames.{asked, frame_of};
 
@@ -8,7 +9,7 @@ use hex::{byte_at, word_at};
 mod hex;
 
 // What a line says: nothing that the bench knows, or a call of one chip.
-#[derive(Drop)]
+#[derive(Clone, Copy)]
 pub enum Frame {
     Unknown,
     To22(Call22),

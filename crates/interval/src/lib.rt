@@ -1,4 +1,5 @@
 // The 6532's interval timer by value: a byte that counts down behind a divider, with a flag for its first passing of zero.
+#![tactic(auto)]
 ghost use Rattle.std.specs.Prelude.{◌≡◌, ◌^◌, ◌<◌};
 ghost use Rattle.clocks.specs.Clocks.{if◌then◌else◌, after};
 ghost use Rattle.interval.specs.Timer.{well_timed, power_up, divider_of, loaded, clocked, Due};
@@ -8,7 +9,7 @@ use clocks::{Forecast, choose8};
 mod closed;
 
 // `prescaler`: clocks left to the next count, of `divider` between two. `expired`: zero has been passed, and each clock counts.
-#[derive(Drop)]
+#[derive(Clone, Copy)]
 pub struct Timer {
     pub value: u8,
     pub divider: u16,

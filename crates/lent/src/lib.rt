@@ -1,4 +1,5 @@
 // The 6522's timer pair in its owner's memory: a call borrows it, decides everything on a copy, and stores what is left.
+#![tactic(auto)]
 ghost use Rattle.std.specs.Prelude.{◌≡◌};
 ghost use Rattle.clocks.specs.Clocks.{after};
 ghost use Rattle.timers.specs.Pair.{well_formed, clocked as clockedPair};

@@ -1,9 +1,10 @@
 // A port of eight lines, as the 6522 and the 6532 have two of and the 6525 three, and the edges of a level.
+#![tactic(auto)]
 ghost use Rattle.std.specs.Prelude.{◌≡◌};
 ghost use Rattle.ports.specs.Ports.{fresh, silent as silentOf, lines_for, lines_of, edge as edge_of};
 
 // The output bits, the levels outside, and the direction bits: 1 drives the line.
-#[derive(Drop)]
+#[derive(Clone, Copy)]
 pub struct Port {
     pub output: u8,
     pub outside: u8,

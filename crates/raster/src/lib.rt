@@ -1,4 +1,5 @@
 // The 6545's raster: the registers that a write reaches, the line and the frame, what clocks do to them and which signals they give.
+#![tactic(auto)]
 ghost use Rattle.std.specs.Prelude.{◌≡◌};
 ghost use Rattle.clocks.specs.Clocks.{after};
 ghost use Rattle.raster.specs.Record.{allowed_r8, well_raster, raster_up, restarted as restartedOf};
@@ -14,7 +15,7 @@ mod cursor;
 mod record;
 
 // R16 and R17 are the light pen's, so no clock changes these.
-#[derive(Drop)]
+#[derive(Clone, Copy)]
 pub struct Registers {
     pub r0: u8,
     pub r1: u8,
@@ -37,14 +38,14 @@ pub struct Registers {
 }
 
 // What every clock moves: the column, and the clocks that HSYNC has left.
-#[derive(Drop)]
+#[derive(Clone, Copy)]
 pub struct Line {
     pub column: u8,
     pub hsync: u8,
 }
 
 // What only a line end moves; `vsync` is the lines that VSYNC has left.
-#[derive(Drop)]
+#[derive(Clone, Copy)]
 pub struct Frame {
     pub row: u8,
     pub scan: u8,
@@ -56,7 +57,7 @@ pub struct Frame {
     pub field: u8,
 }
 
-#[derive(Drop)]
+#[derive(Clone, Copy)]
 pub struct Raster {
     pub registers: Registers,
     pub line: Line,
@@ -64,7 +65,7 @@ pub struct Raster {
 }
 
 // What a raster gives as it is, before R8 shows DE or CURSOR a clock late.
-#[derive(Drop)]
+#[derive(Clone, Copy)]
 pub struct Signals {
     pub de: bool,
     pub cursor: bool,

@@ -1,4 +1,5 @@
 // The program: standard input is a session with repeats, standard output its answers.
+#![tactic(auto)]
 ghost use Rattle.std.specs.Prelude.{◌≡◌, ◌+◌, ◌*◌, ◌≤◌, length};
 ghost use Rattle.lines.specs.Places.{cut_of};
 ghost use Rattle.unrolled.specs.Windows.{number_of, Goes};
@@ -9,21 +10,21 @@ use session::Bench;
 use unrolled::Gone;
 
 // How much of the input has come, and whether it could be read.
-#[derive(Drop)]
+#[derive(Clone, Copy)]
 struct Came {
     bytes: usize,
     read: bool,
 }
 
 // What a window came to, and whether all that there was to write was written.
-#[derive(Drop)]
+#[derive(Clone, Copy)]
 struct Turn {
     gone: Gone,
     written: bool,
 }
 
 // What is left of the bench after so many lines of the written-out session, and whether all that there was to write was written.
-#[derive(Drop)]
+#[derive(Clone, Copy)]
 struct Ended {
     bench: Bench,
     played: usize,

@@ -1,4 +1,5 @@
 // Which line a reply is: upper-case hexadecimal, two digits a byte, ended by LF.
+#![tactic(auto)]
 ghost use Rattle.replies.specs.Replies.{render, Put};
 
 use puts::{put_byte, put_end, put_told};
@@ -7,7 +8,7 @@ mod puts;
 
 // What a frame gets: a refusal's number; or the line byte, alone, before a byte that was read, before such a byte and the mask of the
 // flags that the read cleared, or before a number of four bytes, a forecast's or that of a run's turns.
-#[derive(Drop)]
+#[derive(Clone, Copy)]
 pub enum Reply {
     Refused(u8),
     Done(u8),

@@ -1,4 +1,5 @@
 // The 6532: RAM, two ports, an interval timer and an edge detector on PA7. A call takes the record and hands it back inside its answer.
+#![tactic(auto)]
 ghost use Rattle.std.specs.Prelude.{◌≡◌};
 ghost use Rattle.chips.specs.Chips.{answer, Foretold};
 ghost use Rattle.riot6532.specs.Record.{power_up};
@@ -14,7 +15,7 @@ mod entries;
 mod signals;
 
 // The edge detector on PA7: its flag, its enable, and the choice of the rising edge.
-#[derive(Drop)]
+#[derive(Clone, Copy)]
 pub struct Pa7 {
     pub flag: bool,
     pub enable: bool,
@@ -22,7 +23,7 @@ pub struct Pa7 {
 }
 
 // All but the RAM. It has the entries of the chip too, for callers that hold the RAM beside it.
-#[derive(Drop)]
+#[derive(Clone, Copy)]
 pub struct Io {
     pub a: Port,
     pub b: Port,
@@ -30,14 +31,14 @@ pub struct Io {
     pub pa7: Pa7,
 }
 
-#[derive(Drop)]
+#[derive(Clone, Copy)]
 pub struct Riot {
     pub ram: [u8; 128],
     pub io: Io,
 }
 
 // The answer to a call: its refusal's number or 0, the byte that it read, the lines and the record as it left them.
-#[derive(Drop)]
+#[derive(Clone, Copy)]
 pub struct Answer {
     pub refusal: u8,
     pub data: u8,
@@ -48,21 +49,21 @@ pub struct Answer {
 }
 
 // What a read gives back: `cleared` has the flags that it found set and left clear, the timer's in bit 7 and PA7's in bit 6.
-#[derive(Drop)]
+#[derive(Clone, Copy)]
 pub struct Reading {
     pub cleared: u8,
     pub answer: Answer,
 }
 
 // What a forecast gives back.
-#[derive(Drop)]
+#[derive(Clone, Copy)]
 pub struct Outlook {
     pub forecast: Forecast,
     pub answer: Answer,
 }
 
 // The same without the RAM.
-#[derive(Drop)]
+#[derive(Clone, Copy)]
 pub struct IoAnswer {
     pub refusal: u8,
     pub data: u8,
@@ -72,13 +73,13 @@ pub struct IoAnswer {
     pub io: Io,
 }
 
-#[derive(Drop)]
+#[derive(Clone, Copy)]
 pub struct IoReading {
     pub cleared: u8,
     pub answer: IoAnswer,
 }
 
-#[derive(Drop)]
+#[derive(Clone, Copy)]
 pub struct IoOutlook {
     pub forecast: Forecast,
     pub answer: IoAnswer,

@@ -1,4 +1,5 @@
 // A session on the bench of four chips: lines in, replies out, whole files in pieces of any size.
+#![tactic(auto)]
 ghost use Rattle.std.specs.Prelude.{◌≡◌, [], ◌<◌, length};
 ghost use Rattle.lines.specs.Lines.{ended};
 ghost use Rattle.lines.specs.Places.{lines_at};
@@ -14,7 +15,7 @@ use riot6532::{Io, Riot};
 use tpi6525::Tpi;
 use via6522::Via;
 
-#[derive(Drop)]
+#[derive(Clone, Copy)]
 pub struct Bench {
     pub via: Via,
     pub tpi: Tpi,
@@ -23,7 +24,7 @@ pub struct Bench {
 }
 
 // The bench without the 6532's RAM, which is lent beside it.
-#[derive(Drop)]
+#[derive(Clone, Copy)]
 struct Core {
     via: Via,
     tpi: Tpi,
@@ -32,21 +33,21 @@ struct Core {
 }
 
 // What a line leaves of the core, and its reply.
-#[derive(Drop)]
+#[derive(Clone, Copy)]
 struct Answered {
     core: Core,
     reply: Reply,
 }
 
 // What a line leaves of the bench, and its reply.
-#[derive(Drop)]
+#[derive(Clone, Copy)]
 pub struct Stepped {
     pub bench: Bench,
     pub reply: Reply,
 }
 
 // What a piece of a file leaves of the bench, how many bytes of it were used, and how many were written.
-#[derive(Drop)]
+#[derive(Clone, Copy)]
 pub struct Fed {
     pub bench: Bench,
     pub used: usize,
@@ -54,7 +55,7 @@ pub struct Fed {
 }
 
 // What the lines at some places leave of the bench, and how many bytes were written for them.
-#[derive(Drop)]
+#[derive(Clone, Copy)]
 pub struct Played {
     pub bench: Bench,
     pub made: usize,

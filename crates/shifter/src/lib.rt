@@ -1,5 +1,6 @@
 // The 6522's shift register by value, with its flag and its mode: one clock, n clocks at once, a pulse on CB1, an access, and when its
 // flag is set. CB2's level is handed in, since it is the pin's.
+#![tactic(auto)]
 ghost use Rattle.std.specs.Prelude.{◌≡◌, Bool, ℕ, ◌≤◌};
 ghost use Rattle.clocks.specs.Clocks.{after};
 ghost use Rattle.clocks.specs.Forecasts.{comes};
@@ -9,7 +10,7 @@ ghost use Rattle.shifter.specs.Closed.{begun as begunOf};
 use clocks::{Forecast, bit, choose8, with_mask};
 
 // `left`: shifts to come. `half`: the half-clock mark. `output`: what it puts on CB2. `mode`: bits 4 to 2 of ACR as a number.
-#[derive(Drop)]
+#[derive(Clone, Copy)]
 pub struct Shifter {
     pub byte: u8,
     pub left: u8,

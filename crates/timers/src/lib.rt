@@ -1,4 +1,5 @@
 // The timer pair of the 6522, T1 and T2, each with its flag and its mode: one clock, n clocks at once, and when each flag is set.
+#![tactic(auto)]
 ghost use Rattle.std.specs.Prelude.{◌≡◌};
 ghost use Rattle.clocks.specs.Clocks.{after};
 ghost use Rattle.timers.specs.Pair.{clocked as clockedPair};
@@ -8,7 +9,7 @@ mod second;
 
 // `mark`: the counter takes the latch at the next clock. `level`: what T1 puts on PB7. `free`: free-run, else one-shot.
 #[repr(C)]
-#[derive(Drop)]
+#[derive(Clone, Copy)]
 pub struct T1 {
     pub counter: u16,
     pub latch: u16,
@@ -21,7 +22,7 @@ pub struct T1 {
 
 // `low`: the low latch. `pulse`: pulses on PB6 count, and clocks do not.
 #[repr(C)]
-#[derive(Drop)]
+#[derive(Clone, Copy)]
 pub struct T2 {
     pub counter: u16,
     pub low: u8,
@@ -31,7 +32,7 @@ pub struct T2 {
 }
 
 #[repr(C)]
-#[derive(Drop)]
+#[derive(Clone, Copy)]
 pub struct Timers {
     pub t1: T1,
     pub t2: T2,

@@ -1,4 +1,5 @@
 // The 6525: three ports, the third of them either a port like the others or five interrupt inputs. A call takes the record and hands it back inside its answer.
+#![tactic(auto)]
 ghost use Rattle.std.specs.Prelude.{◌≡◌};
 ghost use Rattle.clocks.specs.Clocks.{if◌then◌else◌};
 ghost use Rattle.chips.specs.Chips.{answer};
@@ -15,7 +16,7 @@ mod access;
 mod signals;
 
 // The ports, the control register CR, and the interrupt inputs.
-#[derive(Drop)]
+#[derive(Clone, Copy)]
 pub struct Tpi {
     pub a: Port,
     pub b: Port,
@@ -25,7 +26,7 @@ pub struct Tpi {
 }
 
 // The answer to a call: its refusal's number or 0, the byte that it read, the lines and the record as it left them.
-#[derive(Drop)]
+#[derive(Clone, Copy)]
 pub struct Answer {
     pub refusal: u8,
     pub data: u8,

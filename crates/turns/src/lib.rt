@@ -1,18 +1,19 @@
 // What a program does with one read of a session, without input or output.
+#![tactic(auto)]
 ghost use Rattle.std.specs.Prelude.{◌≡◌, false, ◌<◌};
 ghost use Rattle.turns.specs.Turns.{Fits, Takes};
 
 use session::Bench;
 
 // What a read gave: it failed, or it put so many bytes behind those that are kept; none at the end of the input.
-#[derive(Drop)]
+#[derive(Clone, Copy)]
 pub enum Read {
     Failed,
     Bytes(usize),
 }
 
 // What a turn leaves: the bench, how much of an open line is kept, how much there is to write, and whether more may come.
-#[derive(Drop)]
+#[derive(Clone, Copy)]
 pub struct Went {
     pub bench: Bench,
     pub kept: usize,

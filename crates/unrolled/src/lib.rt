@@ -1,10 +1,11 @@
 // A session with repeats on the bench: it is judged as a whole, and its lines are played window by window.
+#![tactic(auto)]
 ghost use Rattle.unrolled.specs.Windows.{Begins, Goes};
 
 use session::{Bench, Played};
 
 // How a session begins: how many lines it has, how much there is to write, and whether its lines are to be played.
-#[derive(Drop)]
+#[derive(Clone, Copy)]
 pub struct Begun {
     pub lines: usize,
     pub made: usize,
@@ -12,7 +13,7 @@ pub struct Begun {
 }
 
 // How many lines a window had, what they left of the bench, and how much there is to write.
-#[derive(Drop)]
+#[derive(Clone, Copy)]
 pub struct Gone {
     pub lines: usize,
     pub played: Played,

@@ -1,5 +1,6 @@
 // The 6522: two ports with control lines, two timers, a shift register, and the flags of them all.
 // A call takes the record and hands it back inside its answer.
+#![tactic(auto)]
 ghost use Rattle.std.specs.Prelude.{◌≡◌};
 ghost use Rattle.clocks.specs.Clocks.{if◌then◌else◌};
 ghost use Rattle.calls.specs.declared.Call22.{Call22};
@@ -16,7 +17,7 @@ mod pins;
 mod shown;
 
 // T1 but for its flag and its mode, which IFR and ACR have.
-#[derive(Drop)]
+#[derive(Clone, Copy)]
 pub struct Count1 {
     pub counter: u16,
     pub latch: u16,
@@ -26,7 +27,7 @@ pub struct Count1 {
 }
 
 // T2 likewise.
-#[derive(Drop)]
+#[derive(Clone, Copy)]
 pub struct Count2 {
     pub counter: u16,
     pub low: u8,
@@ -34,7 +35,7 @@ pub struct Count2 {
 }
 
 // The shift register likewise. `left`: shifts to come. `half`: the half-clock mark. `output`: what it puts on CB2.
-#[derive(Drop)]
+#[derive(Clone, Copy)]
 pub struct Serial {
     pub half: bool,
     pub left: u8,
@@ -43,7 +44,7 @@ pub struct Serial {
 }
 
 // `kept_a`, `kept_b`: the lines that the flags of CA1 and CB1 kept. `control`: the outside levels of CA1, CA2, CB1 and CB2 in bits 0 to 3.
-#[derive(Drop)]
+#[derive(Clone, Copy)]
 pub struct Via {
     pub a: Port,
     pub kept_a: u8,
@@ -60,7 +61,7 @@ pub struct Via {
 }
 
 // The answer to a call: its refusal's number or 0, the byte that it read, the lines and the record as it left them.
-#[derive(Drop)]
+#[derive(Clone, Copy)]
 pub struct Answer {
     pub refusal: u8,
     pub data: u8,
@@ -71,14 +72,14 @@ pub struct Answer {
 }
 
 // What a read gives back: `cleared` has the flags that it found set and left clear, in the bits of IFR.
-#[derive(Drop)]
+#[derive(Clone, Copy)]
 pub struct Reading {
     pub cleared: u8,
     pub answer: Answer,
 }
 
 // What a forecast gives back.
-#[derive(Drop)]
+#[derive(Clone, Copy)]
 pub struct Outlook {
     pub forecast: Forecast,
     pub answer: Answer,
