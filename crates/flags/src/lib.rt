@@ -1,6 +1,7 @@
 // The flags of the 6522: what sets, clears, enables and shows them. IFR and IER have a flag and its enable in each of seven bits: 0 CA2,
 // 1 CA1, 2 SR, 3 CB2, 4 CB1, 5 T2, 6 T1. Control levels are in bits 0 to 3: CA1, CA2, CB1, CB2.
 #![tactic(auto)]
+
 ghost use Rattle.std.specs.Prelude.{◌≡◌};
 ghost use Rattle.flags.specs.Flags.{allowed_code, allowed_pcr, edge2 as edge2Of, edge_ca1, edge_ca2, edge_cb1, edge_cb2, set as setOf, raised as raisedOf, keeps_a, keeps_b, independent as independentOf, flags_a, flags_b, access_clears, read_clears, write_clears, shown as shownOf, enabled as enabledOf};
 

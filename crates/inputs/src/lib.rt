@@ -1,5 +1,6 @@
 // The 6525's five interrupt inputs, I0 to I4: the edges that are latched, what the active interrupt register shows, and what is in service.
 #![tactic(auto)]
+
 ghost use Rattle.std.specs.Prelude.{◌≡◌};
 ghost use Rattle.inputs.specs.Inputs.{well_inputs, idle as idleOf, highest_of, edges_of, pinned as pinned_of, shown as shownOf, asserted as assertedOf, taken as taken_of, ended as ended_of, kept as kept_of};
 

@@ -1,5 +1,6 @@
 // A port of eight lines, as the 6522 and the 6532 have two of and the 6525 three, and the edges of a level.
 #![tactic(auto)]
+
 ghost use Rattle.std.specs.Prelude.{◌≡◌};
 ghost use Rattle.ports.specs.Ports.{fresh, silent as silentOf, lines_for, lines_of, edge as edge_of};
 

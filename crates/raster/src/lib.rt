@@ -1,5 +1,6 @@
 // The 6545's raster: the registers that a write reaches, the line and the frame, what clocks do to them and which signals they give.
 #![tactic(auto)]
+
 ghost use Rattle.std.specs.Prelude.{◌≡◌};
 ghost use Rattle.clocks.specs.Clocks.{after};
 ghost use Rattle.raster.specs.Record.{allowed_r8, well_raster, raster_up, restarted as restartedOf};

@@ -1,6 +1,7 @@
 // The 6522's shift register by value, with its flag and its mode: one clock, n clocks at once, a pulse on CB1, an access, and when its
 // flag is set. CB2's level is handed in, since it is the pin's.
 #![tactic(auto)]
+
 ghost use Rattle.std.specs.Prelude.{◌≡◌, Bool, ℕ, ◌≤◌};
 ghost use Rattle.clocks.specs.Clocks.{after};
 ghost use Rattle.clocks.specs.Forecasts.{comes};

@@ -1,5 +1,6 @@
 // The timer pair of the 6522, T1 and T2, each with its flag and its mode: one clock, n clocks at once, and when each flag is set.
 #![tactic(auto)]
+
 ghost use Rattle.std.specs.Prelude.{◌≡◌};
 ghost use Rattle.clocks.specs.Clocks.{after};
 ghost use Rattle.timers.specs.Pair.{clocked as clockedPair};

@@ -1,9 +1,0 @@
-use borrow.Author.Rules.{rules}
-use Rattle.flags.proofs.flags_a.Statement.{statement}
-use Rattle.flags.proofs.flags_a.Tie as tie
-
-returns : tie.Need-returns
-returns c = rw (c.choose8.ensures, c.before.independent.ensures)
-
-pub flags-a-spec : {M : Type 1} → statement M
-flags-a-spec = tie.close (tie.spec (λ c κs. search rules) (λ c κs. search rules) returns)

@@ -1,0 +1,14 @@
+use borrow.Author.Rules.{rules}
+use borrow.Author.Tests.{not-true, not-false}
+use Rattle.inputs.specs.Inputs.{ended}
+use Rattle.inputs.proofs.Inputs.ended.Goals as goal
+
+pub returns-then-not-bit : goal.returns-then-not-bit
+unfolding ended
+returns-then-not-bit c = rw (← c.bit.ensures, c.if-not-bit.true)
+
+pub returns : goal.returns
+unfolding ended
+returns c =
+    let d = c in
+    rw (c.choose8.ensures, c.bit-2.ensures, c.gone-rest.ensures, d.highest.ensures, ← d.bit.ensures, d.if-not-bit.false)

@@ -1,0 +1,9 @@
+use Rattle.raster.specs.Clock.{line_clocked}
+use Rattle.std.proofs.Common.{rules}
+use Rattle.raster.proofs.Line.clocked.Goals as goal
+
+pub returns : goal.returns
+unfolding line_clocked
+returns c =
+    let s = c in
+    rw (c.choose8.ensures, c.less.ensures, s.choose8-column.ensures, s.next.ensures)

@@ -1,0 +1,7 @@
+use Rattle.raster.specs.Access.{stored}
+use Rattle.std.proofs.Common.{rules}
+use Rattle.raster.proofs.Raster.stored.Goals as goal
+
+pub returns : goal.returns
+unfolding stored
+returns c = rw (c.put-self.ensures, c.fitted.ensures)

@@ -1,0 +1,22 @@
+use borrow.Author.Rules.{rules}
+use borrow.Author.Tests.{not-true, not-false}
+use mathlib.Core.Bool.{false}
+use mathlib.Core.Path.{◌∙◌, ap, sym}
+use Rattle.shifter.specs.Shifter.{marked}
+use Rattle.shifter.proofs.Runs.{still, first_clock, second_clock}
+use Rattle.shifter.proofs.Shifter.clock.Goals as goal
+
+pub returns-then-not-counting : goal.returns-then-not-counting
+returns-then-not-counting c = sym (still _ _ (sym c.counting.ensures ∙ c.if-not-counting.true)
+
+pub returns-then-second : goal.returns-then-second
+returns-then-second c =
+    let asked = c in
+    let on = sym asked.counting.ensures ∙ asked.if-not-counting.false in
+    c.marked.ensures ∙ ap (marked false) c.shifted.ensures ∙ sym (second_clock _ _ on c.if-second.true)
+
+pub returns-else-second : goal.returns-else-second
+returns-else-second c =
+    let asked = c in
+    let on = sym asked.counting.ensures ∙ asked.if-not-counting.false in
+    c.marked-else-second.ensures ∙ sym (first_clock _ _ on c.if-second.false)
