@@ -1,4 +1,3 @@
-use borrow.Author.Rules.{rules}
 use Rattle.flags.proofs.edge_ca2.Goals as goal
 
 pub returns : goal.returns

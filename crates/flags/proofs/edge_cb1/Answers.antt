@@ -1,4 +1,3 @@
-use borrow.Author.Rules.{rules}
 use Rattle.flags.proofs.edge_cb1.Goals as goal
 
 pub returns : goal.returns

@@ -1,4 +1,3 @@
-use borrow.Author.Rules.{rules}
 use Rattle.flags.specs.Flags.{enabled}
 use Rattle.flags.proofs.enabled.Goals as goal
 

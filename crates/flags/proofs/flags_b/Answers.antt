@@ -1,4 +1,3 @@
-use borrow.Author.Rules.{rules}
 use Rattle.flags.proofs.flags_b.Goals as goal
 
 pub returns : goal.returns

@@ -1,4 +1,3 @@
-use borrow.Author.Rules.{rules}
 use Rattle.flags.specs.Flags.{keeps_a}
 use Rattle.flags.proofs.keeps_a.Goals as goal
 

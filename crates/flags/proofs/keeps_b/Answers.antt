@@ -1,4 +1,3 @@
-use borrow.Author.Rules.{rules}
 use Rattle.flags.specs.Flags.{keeps_b}
 use Rattle.flags.proofs.keeps_b.Goals as goal
 

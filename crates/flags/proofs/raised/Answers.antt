@@ -1,6 +1,5 @@
 use mathlib.Core.Bool.{Bool}
 use mathlib.Core.Path.{◌∙◌, ap, ap₂}
-use borrow.Author.Rules.{rules}
 use Rattle.flags.specs.Flags.{raised, set}
 use Rattle.flags.proofs.raised.Goals as goal
 

@@ -1,4 +1,3 @@
-use borrow.Author.Rules.{rules}
 use Rattle.clocks.specs.Bits.{with_bit}
 use Rattle.flags.specs.Flags.{shown}
 use Rattle.flags.proofs.shown.Goals as goal

@@ -1,4 +1,4 @@
-use Rattle.std.proofs.Common.{refl, arith, lit<, rules}
+use Rattle.std.proofs.Common.{refl, arith, lit<}
 use Rattle.interval.proofs.Dividers.{by_choice}
 use Rattle.interval.proofs.amount.Goals as goal
 

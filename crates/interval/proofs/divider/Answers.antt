@@ -1,4 +1,4 @@
-use Rattle.std.proofs.Common.{arith, lit<, shl_exact, rules}
+use Rattle.std.proofs.Common.{arith, lit<, shl_exact}
 use Rattle.interval.proofs.divider.Goals as goal
 
 pub returns : goal.returns

@@ -1,4 +1,3 @@
-
 use Rattle.ports.proofs.edge.Goals as goal
 
 pub returns-then-rising : goal.returns-then-rising

@@ -1,4 +1,3 @@
-use Rattle.std.proofs.Common.{rules}
 use Rattle.raster.proofs.allowed_r8.Goals as goal
 
 pub returns : goal.returns

@@ -1,5 +1,3 @@
-use borrow.Author.Rules.{rules}
-use borrow.Author.Tests.{not-true, not-false}
 use Rattle.inputs.specs.Inputs.{kept}
 use Rattle.inputs.proofs.Inputs.kept.Goals as goal
 

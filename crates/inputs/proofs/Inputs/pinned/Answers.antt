@@ -1,5 +1,3 @@
-use borrow.Author.Rules.{rules}
-use borrow.Author.Tests.{not-true, not-false}
 use Rattle.clocks.specs.Bits.{with_set}
 use Rattle.inputs.specs.Inputs.{pinned}
 use Rattle.inputs.proofs.Inputs.pinned.Goals as goal

@@ -1,5 +1,3 @@
-use borrow.Author.Rules.{rules}
-use borrow.Author.Tests.{not-true, not-false}
 use mathlib.Core.Path.{◌∙◌}
 use Rattle.inputs.specs.Inputs.{shown}
 use Rattle.inputs.proofs.Inputs.shown.Goals as goal

@@ -1,4 +1,3 @@
-use borrow.Author.Rules.{rules}
 use Rattle.clocks.specs.Bits.{with_set}
 use Rattle.inputs.proofs.Inputs.taken.Goals as goal
 

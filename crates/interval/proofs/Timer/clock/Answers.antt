@@ -1,4 +1,4 @@
-use Rattle.std.proofs.Common.{ℕ, sym, ap, ◌∙◌, arith, rules}
+use Rattle.std.proofs.Common.{ℕ, sym, ap, ◌∙◌, arith}
 use Rattle.clocks.proofs.Clocks.{lowered}
 use Rattle.interval.specs.Timer.{moved}
 use Rattle.interval.proofs.Clocked.{spent_falls, waits, passes, falls}
@@ -8,7 +8,7 @@ pub returns-then-self : goal.returns-then-self
 returns-then-self c =
     let t = c.args.self in
     ap (λ (y : ℕ). moved y t.prescaler t)
-    (lowered 256 c.wrapping_sub_u8.result t.value (omega arith) c.wrapping_sub_u8.ensures)
+    (lowered 256 c.wrapping_sub_u8.result t.value (omega arith) c.wrapping_sub_u8.ensures.value)
     ∙ sym (spent_falls t c.if-self.true)
 
 pub returns-then-self-gt1 : goal.returns-then-self-gt1

@@ -1,4 +1,4 @@
-use Rattle.std.proofs.Common.{arith, rules}
+use Rattle.std.proofs.Common.{arith}
 use Rattle.interval.proofs.Formed.{formed, product}
 use Rattle.interval.proofs.Timer.counts.Goals as goal
 

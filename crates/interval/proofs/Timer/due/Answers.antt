@@ -1,5 +1,4 @@
-use Rattle.std.proofs.Common.{ℕ, ◌+◌, sym, refl, ap, ◌∙◌, true≢false, rules}
-use borrow.Author.Tests.{not-true, not-false}
+use Rattle.std.proofs.Common.{ℕ, ◌+◌, sym, refl, ap, ◌∙◌, true≢false}
 use Rattle.clocks.specs.Forecasts.{comes}
 use Rattle.clocks.specs.declared.Forecast.{Forecast}
 use Rattle.clocks.specs.declared.Forecast.TheVariants.{Never, In}
@@ -22,7 +21,7 @@ returns-then-self c =
     }
 
 pub counts-requires : goal.counts-requires
-counts-requires c = sym c.well.ensures ∙ not-false _ c.if-not-well.false
+counts-requires c = sym c.well.ensures ∙ c.if-not-well.false
 
 pub returns-then-self-2 : goal.returns-then-self-2
 returns-then-self-2 c =

@@ -1,4 +1,4 @@
-use Rattle.std.proofs.Common.{◌+◌, ◌-◌, ◌*◌, ◌≤◌, mod-lt, arith, rules}
+use Rattle.std.proofs.Common.{◌+◌, ◌-◌, ◌*◌, ◌≤◌, mod-lt, arith}
 use Rattle.interval.proofs.Formed.{formed, some, value_fits}
 use Rattle.interval.proofs.Timer.fallen.Goals as goal
 

@@ -1,4 +1,3 @@
-use Rattle.std.proofs.Common.{rules}
 use Rattle.interval.proofs.Timer.load.Goals as goal
 
 pub returns : goal.returns

@@ -1,15 +1,14 @@
-use Rattle.std.proofs.Common.{ℕ, ◌-◌, ◌%◌, sym, ap, ◌∙◌, arith, rules}
-use borrow.Author.Tests.{not-true, not-false}
+use Rattle.std.proofs.Common.{ℕ, ◌-◌, ◌%◌, sym, ap, ◌∙◌, arith}
 use Rattle.clocks.proofs.Tests.{on_true, on_false}
 use Rattle.interval.specs.Closed.{fallen, spent}
 use Rattle.interval.proofs.Runs.{ran_short, ran_past}
 use Rattle.interval.proofs.Timer.run.Goals as goal
 
 pub returns-then-not-well : goal.returns-then-not-well
-returns-then-not-well c = sym (on_false _ _ _ (sym c.well.ensures ∙ c.if-not-well.true)
+returns-then-not-well c = sym (on_false _ _ _ (sym c.well.ensures ∙ c.if-not-well.true))
 
 pub counts-counts-requires : goal.counts-counts-requires
-counts-counts-requires c = sym c.well.ensures ∙ not-false _ c.if-not-well.false
+counts-counts-requires c = sym c.well.ensures ∙ c.if-not-well.false
 
 pub fallen-requires : goal.fallen-requires
 fallen-requires c =

@@ -1,4 +1,4 @@
-use Rattle.std.proofs.Common.{◌+◌, ◌%◌, sym, ◌∙◌, rules, eq-eqb, ne_eqb}
+use Rattle.std.proofs.Common.{◌+◌, ◌%◌, sym, ◌∙◌, eq-eqb, ne_eqb}
 use Rattle.raster.specs.Clock.{adjust_moved}
 use Rattle.raster.proofs.Frame.adjust_moved.Goals as goal
 

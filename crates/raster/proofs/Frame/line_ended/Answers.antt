@@ -1,5 +1,4 @@
 use Rattle.raster.specs.Clock.{line_ended}
-use Rattle.std.proofs.Common.{rules}
 use Rattle.raster.proofs.Frame.line_ended.Goals as goal
 
 pub returns : goal.returns

@@ -1,4 +1,4 @@
-use Rattle.std.proofs.Common.{◌∙◌, rules, eq-eqb, ne_eqb}
+use Rattle.std.proofs.Common.{◌∙◌, eq-eqb, ne_eqb}
 use Rattle.raster.specs.Clock.{frame_moved}
 use Rattle.raster.proofs.Frame.moved.Goals as goal
 

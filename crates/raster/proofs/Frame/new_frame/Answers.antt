@@ -1,4 +1,3 @@
-use Rattle.std.proofs.Common.{rules}
 use Rattle.raster.specs.Clock.{new_frame}
 use Rattle.raster.proofs.Frame.new_frame.Goals as goal
 

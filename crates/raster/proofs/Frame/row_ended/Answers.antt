@@ -1,4 +1,4 @@
-use Rattle.std.proofs.Common.{◌∙◌, rules, eq-eqb, ne_eqb}
+use Rattle.std.proofs.Common.{◌∙◌, eq-eqb, ne_eqb}
 use Rattle.raster.specs.Clock.{new_frame, row_ended}
 use Rattle.raster.proofs.Frame.row_ended.Goals as goal
 

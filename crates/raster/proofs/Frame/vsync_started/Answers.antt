@@ -1,5 +1,4 @@
 use Rattle.raster.specs.Clock.{vsync_started}
-use Rattle.std.proofs.Common.{rules}
 use Rattle.raster.proofs.Frame.vsync_started.Goals as goal
 
 pub returns : goal.returns

@@ -1,5 +1,4 @@
 use Rattle.raster.specs.Clock.{line_clocked}
-use Rattle.std.proofs.Common.{rules}
 use Rattle.raster.proofs.Line.clocked.Goals as goal
 
 pub returns : goal.returns

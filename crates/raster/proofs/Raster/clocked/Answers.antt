@@ -1,4 +1,4 @@
-use Rattle.std.proofs.Common.{rules, eq-eqb, ne_eqb}
+use Rattle.std.proofs.Common.{eq-eqb, ne_eqb}
 use Rattle.raster.specs.Clock.{raster_clocked}
 use Rattle.raster.proofs.Raster.clocked.Goals as goal
 
@@ -7,11 +7,11 @@ unfolding raster_clocked
 returns-then-line-registers c =
     let p = c in
     let v = p.args.self in
-    rw (p.clocked-self.ensures, ne_eqb v.line-1.column v.registers-1.r0 c.if-line-registers.true)
+    rw (p.clocked-self.ensures, ne_eqb v.line.column v.registers.r0 c.if-line-registers.true)
 
 pub returns : goal.returns
 unfolding raster_clocked
 returns c =
     let p = c in
     let v = p.args.self in
-    rw (p.clocked-self.ensures, c.line_ended_lem.ensures, eq-eqb v.line-1.column v.registers-1.r0 c.if-line-registers.false)
+    rw (p.clocked-self.ensures, c.line_ended-self.ensures, eq-eqb v.line.column v.registers.r0 c.if-line-registers.false)

@@ -1,5 +1,4 @@
 use Rattle.raster.specs.Record.{raster_up}
-use Rattle.std.proofs.Common.{rules}
 use Rattle.raster.proofs.Raster.power_up.Goals as goal
 
 pub returns : goal.returns

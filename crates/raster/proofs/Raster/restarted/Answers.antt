@@ -1,5 +1,4 @@
 use Rattle.raster.specs.Record.{restarted}
-use Rattle.std.proofs.Common.{rules}
 use Rattle.raster.proofs.Raster.restarted.Goals as goal
 
 pub returns : goal.returns

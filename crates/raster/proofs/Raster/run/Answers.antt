@@ -1,13 +1,10 @@
-use Rattle.std.proofs.Common.{◌≡◌, ◌<◌, sym, refl, ap, ◌∙◌, arith, rules}
-use Rattle.clocks.specs.Clocks.{after}
+use Rattle.std.proofs.Common.{sym, refl, ap, ◌∙◌, arith}
 use Rattle.raster.proofs.Runs.{raster, along_after, passed}
-use Rattle.raster.specs.Clock.{raster_clocked}
-use Rattle.raster.specs.Closed.{gap}
 use Rattle.raster.specs.declared.Line.{Line}
 use Rattle.raster.proofs.Raster.run.Goals as goal
 
 pub loop-ahead-init : goal.loop-ahead-init
-loop-ahead-init c = (refl, omega (arith, c.wrapping_sub_u8-ahead.ensures), omega arith)
+loop-ahead-init c = (refl, omega (arith, c.wrapping_sub_u8-ahead.ensures.value), omega arith)
 
 pub loop-ahead-preserved : goal.loop-ahead-preserved
 loop-ahead-preserved c =
@@ -15,15 +12,15 @@ loop-ahead-preserved c =
     let i = p.loop-ahead in
     let s = p in
     let t =
-    passed s.args.self.registers (omega (arith, s.well-formed)) (omega (arith, s.well-formed)) i.line-1 i.invariant.2 i.frame-1 i.ahead
-    i.left i.invariant.1 (omega arith) _ _ _ c.along-last.ensures c.clocked-line.ensures c.line_ended_lem.ensures in
-    (t.0 ∙ i.invariant.0, omega (arith, s.well-formed), omega arith)
+    passed s.args.self.registers (omega (arith, s.well_formed)) (omega (arith, s.well_formed)) i.line i.invariant.2 i.frame i.ahead
+    i.left i.invariant.1 (omega arith) _ _ _ c.along-last.ensures c.clocked-line.ensures c.line_ended-frame.ensures in
+    (t.0 ∙ i.invariant.0, omega (arith, s.well_formed), omega arith)
 
 pub returns : goal.returns
 returns c =
     let i = c.loop-ahead in
     let s = c in
     let r = s.args.self.registers in
-    ap (λ (x : Line). raster r x i.frame-1) c.along-self.ensures
-    ∙ sym (along_after r (omega (arith, s.well-formed)) (omega (arith, s.well-formed)) i.line-1 i.invariant.2 i.frame-1 i.left (omega arith))
+    ap (λ (x : Line). raster r x i.frame) c.along-self.ensures
+    ∙ sym (along_after r (omega (arith, s.well_formed)) (omega (arith, s.well_formed)) i.line i.invariant.2 i.frame i.left (omega arith))
     ∙ i.invariant.0

@@ -1,5 +1,4 @@
 use Rattle.raster.specs.Signals.{signals_of}
-use Rattle.std.proofs.Common.{rules}
 use Rattle.raster.proofs.Raster.signals.Goals as goal
 
 pub returns : goal.returns

@@ -1,5 +1,4 @@
 use Rattle.raster.specs.Access.{stored}
-use Rattle.std.proofs.Common.{rules}
 use Rattle.raster.proofs.Raster.stored.Goals as goal
 
 pub returns : goal.returns

@@ -1,10 +1,10 @@
 use Rattle.clocks.specs.Ranges.{within}
 use Rattle.raster.specs.Record.{well_line, well_raster}
-use Rattle.std.proofs.Common.{arith, rules, lt-ltb}
+use Rattle.std.proofs.Common.{arith, lt-ltb}
 use Rattle.raster.proofs.Raster.well.Goals as goal
 
 pub returns : goal.returns
 unfolding well_raster well_line within
 returns c =
     let s = c in
-    rw (c.well-2.ensures, c.well.ensures, lt-ltb s.args.self.line.column 256 (omega (arith, s.well-formed)))
+    rw (c.well-2.ensures, c.well.ensures, lt-ltb s.args.self.line.column 256 (omega (arith, s.well_formed)))

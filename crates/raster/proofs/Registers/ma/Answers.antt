@@ -1,4 +1,3 @@
-use Rattle.std.proofs.Common.{rules}
 use Rattle.raster.specs.Signals.{ma_of}
 use Rattle.raster.proofs.Registers.ma.Goals as goal
 

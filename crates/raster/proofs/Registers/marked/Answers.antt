@@ -1,5 +1,4 @@
 use Rattle.raster.specs.Signals.{marked_of}
-use Rattle.std.proofs.Common.{rules}
 use Rattle.raster.proofs.Registers.marked.Goals as goal
 
 pub returns : goal.returns

@@ -1,4 +1,4 @@
-use Rattle.std.proofs.Common.{◌≡◌, ℕ, ◌<◌, true, ltb, arith, rules, lt-ltb}
+use Rattle.std.proofs.Common.{◌≡◌, ℕ, ◌<◌, true, ltb, arith, lt-ltb}
 use Rattle.clocks.specs.Ranges.{within}
 use Rattle.raster.specs.Record.{well_registers}
 use mathlib.Core.Bool.{and-true}
@@ -11,14 +11,14 @@ returns c =
     let byte : (x : ℕ) → x < 256 → ltb x 256 ≡ true = λ x h. lt-ltb x 256 h in
     let r = s.args.self in
     rw (
-      byte r.r0 (omega (arith, s.well-formed)),
-      byte r.r1 (omega (arith, s.well-formed)),
-      byte r.r2 (omega (arith, s.well-formed)),
-      byte r.r3 (omega (arith, s.well-formed)),
-      byte r.r8 (omega (arith, s.well-formed)),
-      byte r.r13 (omega (arith, s.well-formed)),
-      byte r.r15 (omega (arith, s.well-formed)),
-      byte r.r19 (omega (arith, s.well-formed)),
+      byte r.r0 (omega (arith, s.well_formed)),
+      byte r.r1 (omega (arith, s.well_formed)),
+      byte r.r2 (omega (arith, s.well_formed)),
+      byte r.r3 (omega (arith, s.well_formed)),
+      byte r.r8 (omega (arith, s.well_formed)),
+      byte r.r13 (omega (arith, s.well_formed)),
+      byte r.r15 (omega (arith, s.well_formed)),
+      byte r.r19 (omega (arith, s.well_formed)),
       c.allowed_r8.ensures,
     )
     (simp and-true)

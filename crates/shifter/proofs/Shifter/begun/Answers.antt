@@ -1,4 +1,3 @@
-use borrow.Author.Rules.{rules}
 use lib.Dec.{lit≤}
 use Prim.Native.Nat.{ℕ, ◌≤◌, zero-le}
 use Rattle.clocks.proofs.Tests.{picked}

@@ -1,5 +1,3 @@
-use borrow.Author.Rules.{rules}
-use borrow.Author.Tests.{not-true, not-false}
 use mathlib.Core.Bool.{false}
 use mathlib.Core.Path.{◌∙◌, ap, sym}
 use Rattle.shifter.specs.Shifter.{marked}
@@ -7,7 +5,7 @@ use Rattle.shifter.proofs.Runs.{still, first_clock, second_clock}
 use Rattle.shifter.proofs.Shifter.clock.Goals as goal
 
 pub returns-then-not-counting : goal.returns-then-not-counting
-returns-then-not-counting c = sym (still _ _ (sym c.counting.ensures ∙ c.if-not-counting.true)
+returns-then-not-counting c = sym (still _ _ (sym c.counting.ensures ∙ c.if-not-counting.true))
 
 pub returns-then-second : goal.returns-then-second
 returns-then-second c =

@@ -1,4 +1,3 @@
-use borrow.Author.Rules.{rules}
 use Rattle.shifter.proofs.Shifter.counting.Goals as goal
 
 pub returns : goal.returns

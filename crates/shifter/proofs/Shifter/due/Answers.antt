@@ -1,4 +1,3 @@
-use borrow.Author.Rules.{rules}
 use lib.Dec.{leb}
 use mathlib.Core.Path.{◌≡◌, ◌∙◌, ap, sym}
 use mathlib.Core.Bool.{true, false}

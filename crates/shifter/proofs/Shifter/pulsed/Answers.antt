@@ -1,4 +1,3 @@
-use borrow.Author.Rules.{rules}
 use mathlib.Core.Bool.{Bool, ◌&&◌}
 use mathlib.Core.Path.{◌∙◌, ap, sym}
 use Rattle.clocks.proofs.Tests.{on_true, on_false}

@@ -1,5 +1,3 @@
-use borrow.Author.Rules.{rules}
-use borrow.Author.Tests.{not-true, not-false}
 use lib.Dec.{eqb}
 use mathlib.Core.Path.{◌≡◌, ◌∙◌, ap, sym}
 use mathlib.Core.Bool.{true, false}
@@ -11,7 +9,7 @@ use Rattle.shifter.proofs.Shifter.run.Goals as goal
 
 pub returns-then-not-counting : goal.returns-then-not-counting
 returns-then-not-counting c = let at = c.args in
-    sym (resting at.level at.self (sym c.counting.ensures ∙ c.if-not-counting.true at.n)
+    sym (resting at.level at.self (sym c.counting.ensures ∙ c.if-not-counting.true) at.n)
 
 pub returns-then-self-clocks : goal.returns-then-self-clocks
 returns-then-self-clocks c =

@@ -1,4 +1,3 @@
-use borrow.Author.Rules.{rules}
 use lib.Dec.{eqb, lit≤}
 use mathlib.Core.Bool.{Bool, ◌||◌}
 use mathlib.Core.Path.{◌∙◌, ap}

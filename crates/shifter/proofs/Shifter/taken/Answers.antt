@@ -1,4 +1,3 @@
-use borrow.Author.Rules.{rules}
 use mathlib.Core.Path.{◌∙◌, sym}
 use Rattle.clocks.proofs.Tests.{on_true, on_false}
 use Rattle.shifter.proofs.Shifter.taken.Goals as goal

@@ -1,4 +1,4 @@
-use Rattle.std.proofs.Common.{◌∙◌, rules, eq-eqb, ne_eqb}
+use Rattle.std.proofs.Common.{◌∙◌, eq-eqb, ne_eqb}
 use Rattle.clocks.specs.Clocks.{after}
 use Rattle.timers.specs.First.{clocked}
 use Rattle.timers.proofs.T1.clock.Goals as goal

@@ -1,4 +1,4 @@
-use Rattle.std.proofs.Common.{◌≡◌, ℕ, ◌+◌, true, false, ◌||◌, leb, sym, ap, ◌∙◌, rules}
+use Rattle.std.proofs.Common.{◌≡◌, ℕ, ◌+◌, true, false, ◌||◌, leb, sym, ap, ◌∙◌}
 use Rattle.timers.proofs.Firsts.{flag_due}
 use Rattle.timers.proofs.T1.due.Goals as goal
 

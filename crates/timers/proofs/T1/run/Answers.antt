@@ -1,4 +1,4 @@
-use Rattle.std.proofs.Common.{ℕ, ◌-◌, ◌/◌, ◌%◌, sym, ap, ◌∙◌, arith, rules}
+use Rattle.std.proofs.Common.{ℕ, ◌-◌, ◌/◌, ◌%◌, sym, ap, ◌∙◌, arith}
 use Rattle.timers.specs.Closed.{period_of, fallen, turned}
 use Rattle.timers.proofs.Firsts.{ran_short, under, ran_past}
 use Rattle.timers.proofs.T1.run.Goals as goal

@@ -1,4 +1,4 @@
-use Rattle.std.proofs.Common.{arith, rules}
+use Rattle.std.proofs.Common.{arith}
 use Rattle.timers.proofs.T1.top.Goals as goal
 
 pub returns-then-self : goal.returns-then-self

@@ -1,4 +1,4 @@
-use Rattle.std.proofs.Common.{◌∙◌, rules}
+use Rattle.std.proofs.Common.{◌∙◌}
 use Rattle.timers.specs.Second.{clocked}
 use Rattle.timers.proofs.T2.clock.Goals as goal
 

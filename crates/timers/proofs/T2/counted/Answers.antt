@@ -1,4 +1,4 @@
-use Rattle.std.proofs.Common.{ℕ, ap, arith, rules}
+use Rattle.std.proofs.Common.{ℕ, ap, arith}
 use Rattle.clocks.proofs.Clocks.{lowered}
 use Rattle.timers.specs.Second.{counted}
 use Rattle.timers.specs.declared.T2.{T2}
@@ -11,4 +11,4 @@ pub returns : goal.returns
 unfolding counted put
 returns c = let t = c.args.self in
     let r = c.wrapping_sub_u16 in
-    ap (λ (x : ℕ). put x (counted t)) (lowered 65536 r.result t.counter (omega arith) r.ensures)
+    ap (λ (x : ℕ). put x (counted t)) (lowered 65536 r.result t.counter (omega arith) r.ensures.value)

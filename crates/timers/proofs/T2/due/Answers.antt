@@ -1,4 +1,4 @@
-use Rattle.std.proofs.Common.{◌≡◌, true, false, not, ◌&&◌, ◌∙◌, rules}
+use Rattle.std.proofs.Common.{◌≡◌, true, false, not, ◌&&◌, ◌∙◌}
 use Rattle.timers.proofs.Seconds.{flag_due}
 use Rattle.timers.proofs.T2.due.Goals as goal
 

@@ -1,4 +1,4 @@
-use Rattle.std.proofs.Common.{sym, ◌∙◌, rules}
+use Rattle.std.proofs.Common.{sym, ◌∙◌}
 use Rattle.clocks.proofs.Tests.{on_true, on_false}
 use Rattle.timers.specs.Second.{pulsed}
 use Rattle.timers.proofs.T2.pulsed.Goals as goal

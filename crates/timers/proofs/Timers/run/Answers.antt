@@ -1,4 +1,4 @@
-use Rattle.std.proofs.Common.{sym, ◌∙◌, rules}
+use Rattle.std.proofs.Common.{sym, ◌∙◌}
 use Rattle.timers.proofs.Pairs.{each}
 use Rattle.timers.proofs.Timers.run.Goals as goal
 
