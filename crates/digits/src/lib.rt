@@ -1,5 +1,6 @@
 // Upper-case hexadecimal, read. A character that is no digit is worth so much that what it is part of is too large.
 #![tactic(auto)]
+
 ghost use Rattle.std.specs.Prelude.{◌≡◌, ◌≤◌};
 ghost use Rattle.digits.specs.Hex.{value_of, pair_of, word_of};
 

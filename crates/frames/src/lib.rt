@@ -1,5 +1,6 @@
 // Which call a line of a session is: the byte of a chip, an operation's number and its operands, two digits a byte.
 #![tactic(auto)]
+
 ghost use Rattle.std.specs.Prelude.{◌≡◌, [], ◌∷◌};
 ghost use Rattle.frames.specs.Frames.{asked, frame_of};
 

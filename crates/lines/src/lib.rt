@@ -1,5 +1,6 @@
 // A file as lines, each ended by an LF: where one ends, what is kept of one that is still open, and the places of lines in a text.
 #![tactic(auto)]
+
 ghost use Rattle.std.specs.Prelude.{◌≡◌, ◌+◌, ◌/◌, ◌%◌, ◌≤◌, min, length, take};
 ghost use Rattle.lines.specs.Lines.{end_from};
 ghost use Rattle.lines.specs.Keeps.{Moved, Keeps};

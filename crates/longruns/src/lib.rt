@@ -1,5 +1,6 @@
 // Long runs of a raster: all but the last lines by division.
 #![tactic(auto)]
+
 ghost use Rattle.std.specs.Prelude.{◌≡◌, ◌+◌, ◌*◌, ◌<◌, true, ◌&&◌, nat_lt};
 ghost use Rattle.clocks.specs.Clocks.{after};
 ghost use Rattle.raster.specs.Record.{well_raster};

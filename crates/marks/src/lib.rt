@@ -1,5 +1,6 @@
 // The marks of repeats: which lines open and close them, how deep they stand and whether they match.
 #![tactic(auto)]
+
 ghost use Rattle.std.specs.Prelude.{◌≡◌};
 ghost use Rattle.lines.specs.Places.{line_at};
 ghost use Rattle.marks.specs.Marks.{closes as closesOf, count_of, turns_of};

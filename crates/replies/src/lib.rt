@@ -1,5 +1,6 @@
 // Which line a reply is: upper-case hexadecimal, two digits a byte, ended by LF.
 #![tactic(auto)]
+
 ghost use Rattle.replies.specs.Replies.{render, Put};
 
 use puts::{put_byte, put_end, put_told};

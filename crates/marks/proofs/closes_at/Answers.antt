@@ -1,0 +1,9 @@
+use mathlib.Core.Path.{ap, ◌∙◌}
+use Rattle.marks.specs.Marks.{closes}
+use Rattle.lines.proofs.Places.{part_line}
+use Rattle.marks.proofs.closes_at.Goals as goal
+
+pub returns : goal.returns
+returns c =
+    let at = c in
+    c.closes.ensures ∙ ap closes (part_line _ _ _ _ at.end_at-end.ensures at.start_at-start.ensures)

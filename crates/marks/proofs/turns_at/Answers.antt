@@ -1,0 +1,17 @@
+use mathlib.Core.Path.{ap, ◌∙◌}
+use native.Mathlib.Omega.{arith}
+use borrow.Author.Tests.{lt-ltb}
+use Rattle.marks.specs.Marks.{count_of, turns_of}
+use Rattle.lines.proofs.Places.{part_line}
+use Rattle.marks.proofs.Marks.{no_level}
+use Rattle.marks.proofs.turns_at.Goals as goal
+
+pub returns-then-levels-lt1 : goal.returns-then-levels-lt1
+returns-then-levels-lt1 c = no_level _ _ c.if-levels-lt1.true
+
+pub returns : goal.returns
+unfolding turns_of
+returns c =
+    let at = c in
+    let some = at.if-levels-lt1.false in
+    rw (lt-ltb 0 at.args.levels (omega arith)) (c.count.ensures ∙ ap count_of (part_line _ _ _ _ at.end_at-end.ensures at.start_at-start.ensures))
