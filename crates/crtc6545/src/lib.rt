@@ -1,5 +1,6 @@
 // The 6545: the raster of the screen, its lines as R8 shows them, and the light pen. A call takes the record and hands it back inside its answer.
 #![tactic(auto)]
+
 ghost use Rattle.std.specs.Prelude.{◌≡◌, true, false};
 ghost use Rattle.clocks.specs.Clocks.{if◌then◌else◌};
 ghost use Rattle.chips.specs.Chips.{answer};

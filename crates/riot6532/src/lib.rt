@@ -1,5 +1,6 @@
 // The 6532: RAM, two ports, an interval timer and an edge detector on PA7. A call takes the record and hands it back inside its answer.
 #![tactic(auto)]
+
 ghost use Rattle.std.specs.Prelude.{◌≡◌};
 ghost use Rattle.chips.specs.Chips.{answer, Foretold};
 ghost use Rattle.riot6532.specs.Record.{power_up};

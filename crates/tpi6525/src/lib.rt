@@ -1,5 +1,6 @@
 // The 6525: three ports, the third of them either a port like the others or five interrupt inputs. A call takes the record and hands it back inside its answer.
 #![tactic(auto)]
+
 ghost use Rattle.std.specs.Prelude.{◌≡◌};
 ghost use Rattle.clocks.specs.Clocks.{if◌then◌else◌};
 ghost use Rattle.chips.specs.Chips.{answer};

@@ -1,6 +1,7 @@
 // The 6522: two ports with control lines, two timers, a shift register, and the flags of them all.
 // A call takes the record and hands it back inside its answer.
 #![tactic(auto)]
+
 ghost use Rattle.std.specs.Prelude.{◌≡◌};
 ghost use Rattle.clocks.specs.Clocks.{if◌then◌else◌};
 ghost use Rattle.calls.specs.declared.Call22.{Call22};

@@ -1,0 +1,16 @@
+use mathlib.Core.Path.{◌∙◌, ap, sym}
+use Rattle.chips.proofs.Chips.{accepts, refuses}
+use Rattle.calls.specs.declared.Call25.TheVariants.{Pins}
+use Rattle.tpi6525.specs.Chip.{chip, accepted}
+use Rattle.tpi6525.proofs.Tpi.pins.Goals as goal
+
+pub returns-then-number-ne0 : goal.returns-then-number-ne0
+returns-then-number-ne0 c = c.refused.ensures ∙ sym (refuses chip (Pins _ _ _) _ _ c.refusal-number.ensures c.if-number-ne0.true)
+
+pub returns : goal.returns
+returns c =
+    let d = c in
+    let e = d in
+    c.accepted.ensures
+    ∙ ap (accepted 0) (rw d.pinned-self.ensures)
+    ∙ sym (accepts chip (Pins _ _ _) _ _ e.refusal-number.ensures e.if-number-ne0.false)
