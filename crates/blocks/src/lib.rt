@@ -1,5 +1,6 @@
 // Sessions with repeats: what they come to, written out window by window, and which are refused.
 #![tactic(auto)]
+
 ghost use Rattle.std.specs.Prelude.{◌≡◌, List, ℕ, ◌≤◌, ◌<◌, ◌+◌, ◌-◌, ◌*◌, min, ltb, length, take, drop};
 ghost use Rattle.blocks.specs.Windows.{window as windowOf, note_of, notes, Last};
 ghost use Rattle.lines.specs.Written.{Written};

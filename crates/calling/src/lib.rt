@@ -1,5 +1,6 @@
 // One call of a session on its chip: what is left of the chip, and the reply.
 #![tactic(auto)]
+
 ghost use Rattle.std.specs.Prelude.{◌≡◌, List, ℕ, ◌≤◌};
 ghost use Rattle.clocks.specs.Clocks.{if◌then◌else◌};
 ghost use Rattle.clocks.specs.Forecasts.{number_of};

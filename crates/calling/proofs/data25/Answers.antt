@@ -1,0 +1,4 @@
+use Rattle.calling.proofs.data25.Goals as goal
+
+pub returns : goal.returns
+returns c = rw (c.replied.ensures, c.line.ensures)
