@@ -8,7 +8,7 @@ use Rattle.clocks.proofs.Tests.{both}
 use Rattle.raster.specs.Signals.{signals_of}
 use Rattle.crtc6545.specs.Clock.{clock_of}
 use Rattle.crtc6545.specs.declared.Crtc.{Crtc}
-use Rattle.marked.specs.Cases.{field45, Outcome45, frame_of_clocks, start◌row◌column◌MA◌, Shows45}
+use Rattle.marked.specs.Cases.{field45, Outcome45, frame_of◌clocks, start◌row◌column◌MA◌, Shows45}
 use Rattle.marked.proofs.Tests.{along, along_holds}
 
 -- after k clocks, as many frames are over as n clocks go into k
@@ -16,7 +16,7 @@ abbrev counts : ℕ → ℕ → Crtc → Bool
 counts n k v = eqb v.raster.frame.field (k / n % 32)
 
 abbrev pub passes45 : Outcome45 → Crtc → Bool
-passes45 (frame-of n clocks) v = along clock_of (counts n) (32 * n) 0 v
+passes45 (frame_of n clocks) v = along clock_of (counts n) (32 * n) 0 v
 passes45 (start s row r column c MA x) v =
     eqb v.raster.frame.frame_start s
     && eqb v.raster.frame.row r
@@ -24,7 +24,7 @@ passes45 (start s row r column c MA x) v =
     && eqb (signals_of v.raster).ma x
 
 pub passes45_holds : (o : Outcome45) (v : Crtc) → passes45 o v ≡ true → Shows45 o v
-passes45_holds (frame-of n clocks) v e =
+passes45_holds (frame_of n clocks) v e =
     λ k h. eqb-true (field45 k v) (k / n % 32) (along_holds clock_of (counts n) (32 * n) v e k h)
 passes45_holds (start s row r column c MA x) v h =
     let d = both _ _ h in

@@ -130,11 +130,11 @@ pub record Addresses (start row column ma : ℕ) (v : Crtc) : Type 0 where
 
 infix 20 start◌row◌column◌MA◌
 pub data Outcome45 : Type 0 where
-  frame_of_clocks : ℕ → Outcome45
+  frame_of◌clocks : ℕ → Outcome45
   start◌row◌column◌MA◌ : ℕ → ℕ → ℕ → ℕ → Outcome45
 
 abbrev pub Shows45 : Outcome45 → Crtc → Type 0
-Shows45 (frame-of n clocks) = FrameOf n
+Shows45 (frame_of n clocks) = FrameOf n
 Shows45 (start s row r column c MA x) = Addresses s r c x
 
 -- ---- a case of one of the four

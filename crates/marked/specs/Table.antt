@@ -8,7 +8,7 @@ use Rattle.calls.specs.declared.Call32.{Call32}
 use Rattle.calls.specs.declared.Call32.TheVariants as Riot
 use Rattle.calls.specs.declared.Call45.{Call45}
 use Rattle.calls.specs.declared.Call45.TheVariants as Crtc
-use Rattle.marked.specs.Cases.{Case, on_6522, on_6525, on_6532, on_6545, t1_flags_at, t1_reloads◌forecast◌, t2_wraps_unflagged_at, timer_flag_at, frame_of_clocks, start◌row◌column◌MA◌, ◌gives◌asserted◌shows◌}
+use Rattle.marked.specs.Cases.{Case, on_6522, on_6525, on_6532, on_6545, t1_flags_at, t1_reloads◌forecast◌, t2_wraps_unflagged_at, timer_flag_at, frame_of◌clocks, start◌row◌column◌MA◌, ◌gives◌asserted◌shows◌}
 
 -- a timer of the 6522 is loaded by its low and then its high byte: T1 by registers 4 and 5, T2 by 8 and 9
 abbrev pub load1 : ℕ → List Call22
@@ -63,8 +63,8 @@ table =
     ∷ on_6532 (load_over_8 52) (timer_flag_at 417)
     ∷ on_6532 (load_over_1024 0) (timer_flag_at 1)
     ∷ on_6532 (load_over_1024 255) (timer_flag_at 261121)
-    ∷ on_6545 (registers ((0, 3) ∷ (4, 1) ∷ (9, 1) ∷ (5, 1) ∷ [])) (frame-of 20 clocks)
-    ∷ on_6545 (registers ((0, 3) ∷ (4, 1) ∷ (9, 1) ∷ (5, 0) ∷ [])) (frame-of 16 clocks)
+    ∷ on_6545 (registers ((0, 3) ∷ (4, 1) ∷ (9, 1) ∷ (5, 1) ∷ [])) (frame_of 20 clocks)
+    ∷ on_6545 (registers ((0, 3) ∷ (4, 1) ∷ (9, 1) ∷ (5, 0) ∷ [])) (frame_of 16 clocks)
     ∷ on_6545 (registers ((1, 2) ∷ (0, 3) ∷ (4, 1) ∷ (9, 1) ∷ []) ++ run45 9) (start 0 row 1 column 1 MA 3)
     ∷ on_6545 (registers ((1, 80) ∷ (0, 99) ∷ (4, 24) ∷ (9, 7) ∷ []) ++ run45 18479) (start 0 row 23 column 79 MA 1919)
     ∷ []

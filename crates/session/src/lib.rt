@@ -1,5 +1,6 @@
 // A session on the bench of four chips: lines in, replies out, whole files in pieces of any size.
 #![tactic(auto)]
+
 ghost use Rattle.std.specs.Prelude.{◌≡◌, [], ◌<◌, length};
 ghost use Rattle.lines.specs.Lines.{ended};
 ghost use Rattle.lines.specs.Places.{lines_at};

@@ -1,0 +1,16 @@
+use borrow.Author.Rules.{rules}
+use native.Mathlib.Omega.{arith}
+use Prim.Native.Nat.{◌-◌}
+use lib.ListN.{length, drop}
+use Rattle.lines.specs.Places.{lines_at}
+use Rattle.session.specs.Core.{joined, stepped}
+use Rattle.session.proofs.Feeding.{from_core}
+use Rattle.session.proofs.Playing.{Playing, playing_none, playing_start, playing_line, playing_end, played}
+use Rattle.session.proofs.Bench.play.Given as goal
+
+abbrev pub invariant-loop-i : goal.invariant-loop-i
+invariant-loop-i l =
+    Playing (joined l.initial.ram l.initial.core) (lines_at l.text l.places) l.initial.out l.out (joined l.ram l.core) l.made (lines_at l.text (drop l.i l.places))
+
+abbrev pub decreases-loop-i : goal.decreases-loop-i
+decreases-loop-i l = length l.places - l.i

@@ -1,0 +1,44 @@
+use borrow.Author.Rules.{rules}
+use native.Mathlib.Omega.{arith}
+use Prim.Native.Nat.{◌-◌}
+use lib.ListN.{length, drop}
+use Rattle.session.specs.Pieces.{lines_in}
+use Rattle.session.specs.Core.{joined, stepped}
+use Rattle.session.proofs.Feeding.{Going, going_start, going_on, going_past, going_end, going_full, from_core}
+use Rattle.session.proofs.Bench.taken.Goals as goal
+
+pub loop-at-init : goal.loop-at-init
+loop-at-init c = going_start _ _ _
+
+pub returns-then-input-end : goal.returns-then-input-end
+returns-then-input-end c =
+    let l = c in
+    rw c.fed.ensures
+    (from_core l.args.self _ l.core-core.ensures
+    (going_end l.loop-at.invariant (c.line_end-end.ensures.missing c.if-input-end.true)))
+
+pub returns-then-out-made-lt13 : goal.returns-then-out-made-lt13
+returns-then-out-made-lt13 c =
+    let l = c in
+    rw c.fed-then-out-made-lt13.ensures
+    (from_core l.args.self _ l.core-core.ensures (going_full l.loop-at.invariant c.if-out-made-lt13.true))
+
+pub overflow_add-at : goal.overflow_add-at
+overflow_add-at c =
+    let l = c in
+    omega (arith, c.if-input-end.false, l.well_formed)
+
+pub loop-at-preserved : goal.loop-at-preserved
+loop-at-preserved c =
+    let g = c.loop-at.invariant in
+    let h = c.if-out-made-lt13.false in
+    let a = c.answered-after in
+    let p = c.put-made in
+    going_on _ _ g _ (stepped _ a.result) _ _ c.line_end-end.ensures c.if-input-end.false (omega (arith, g.room, h)) a.ensures
+    p.auto.out p.ensures
+
+pub returns : goal.returns
+returns c =
+    let l = c in
+    rw c.fed-2.ensures
+    (from_core l.args.self _ l.core-core.ensures (going_past _ _ l.loop-at.invariant c.loop-at-test.false))
