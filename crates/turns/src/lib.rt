@@ -1,5 +1,6 @@
 // What a program does with one read of a session, without input or output.
 #![tactic(auto)]
+
 ghost use Rattle.std.specs.Prelude.{◌≡◌, false, ◌<◌};
 ghost use Rattle.turns.specs.Turns.{Fits, Takes};
 

@@ -1,4 +1,3 @@
-use borrow.Author.Rules.{rules}
 use mathlib.Core.Path.{sym, ◌∙◌}
 use Rattle.session.proofs.Feeding.{ends_whole, ends_missing, ends_found}
 use Rattle.session.proofs.line_end.Goals as goal

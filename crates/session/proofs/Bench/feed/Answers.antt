@@ -1,4 +1,3 @@
-use borrow.Author.Rules.{rules}
 use Rattle.session.specs.Pieces.{lines_in}
 use Rattle.session.proofs.Bench.feed.Goals as goal
 

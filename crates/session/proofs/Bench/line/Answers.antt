@@ -1,4 +1,3 @@
-use borrow.Author.Rules.{rules}
 use mathlib.Core.Path.{◌∙◌, ap}
 use Rattle.frames.specs.Frames.{frame_of}
 use Rattle.replies.specs.declared.Reply.{Reply}

@@ -1,11 +1,7 @@
-use borrow.Author.Rules.{rules}
 use native.Mathlib.Omega.{arith}
-use Prim.Native.Nat.{◌-◌}
-use lib.ListN.{length, drop}
-use Rattle.lines.specs.Places.{lines_at}
-use Rattle.session.specs.Core.{joined, stepped}
+use Rattle.session.specs.Core.{stepped}
 use Rattle.session.proofs.Feeding.{from_core}
-use Rattle.session.proofs.Playing.{Playing, playing_none, playing_start, playing_line, playing_end, played}
+use Rattle.session.proofs.Playing.{playing_none, playing_start, playing_line, playing_end, played}
 use Rattle.session.proofs.Bench.play.Goals as goal
 
 pub returns-then-out-places : goal.returns-then-out-places

@@ -1,11 +1,8 @@
-use borrow.Author.Rules.{rules}
-use native.Mathlib.Omega.{arith}
 use Prim.Native.Nat.{◌-◌}
 use lib.ListN.{length, drop}
 use Rattle.lines.specs.Places.{lines_at}
-use Rattle.session.specs.Core.{joined, stepped}
-use Rattle.session.proofs.Feeding.{from_core}
-use Rattle.session.proofs.Playing.{Playing, playing_none, playing_start, playing_line, playing_end, played}
+use Rattle.session.specs.Core.{joined}
+use Rattle.session.proofs.Playing.{Playing}
 use Rattle.session.proofs.Bench.play.Given as goal
 
 abbrev pub invariant-loop-i : goal.invariant-loop-i

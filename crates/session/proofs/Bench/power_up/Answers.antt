@@ -1,4 +1,3 @@
-use borrow.Author.Rules.{rules}
 use Rattle.session.specs.Steps.{power_up}
 use Rattle.session.proofs.Bench.power_up.Goals as goal
 

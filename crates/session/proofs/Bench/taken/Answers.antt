@@ -1,10 +1,6 @@
-use borrow.Author.Rules.{rules}
 use native.Mathlib.Omega.{arith}
-use Prim.Native.Nat.{◌-◌}
-use lib.ListN.{length, drop}
-use Rattle.session.specs.Pieces.{lines_in}
-use Rattle.session.specs.Core.{joined, stepped}
-use Rattle.session.proofs.Feeding.{Going, going_start, going_on, going_past, going_end, going_full, from_core}
+use Rattle.session.specs.Core.{stepped}
+use Rattle.session.proofs.Feeding.{going_start, going_on, going_past, going_end, going_full, from_core}
 use Rattle.session.proofs.Bench.taken.Goals as goal
 
 pub loop-at-init : goal.loop-at-init

@@ -1,4 +1,3 @@
-use borrow.Author.Rules.{rules}
 use mathlib.Core.Path.{◌∙◌, ap}
 use Rattle.session.specs.Steps.{step_of}
 use Rattle.session.proofs.Core.answered.Goals as goal

@@ -1,4 +1,3 @@
-use borrow.Author.Rules.{rules}
 use Rattle.session.specs.Steps.{step_of}
 use Rattle.session.proofs.Moved.{moved32}
 use Rattle.session.proofs.Core.step.Goals as goal
