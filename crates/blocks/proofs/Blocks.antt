@@ -1,4 +1,5 @@
 -- What lines write, one by one.
+use Rattle.std.specs.Prelude.{if◌then◌else◌}
 use mathlib.Core.Path.{◌≡◌, refl, ap, sym, ◌∙◌}
 use mathlib.Core.Bool.{Bool, true, false}
 use mathlib.Core.List.{List, [], ◌∷◌, ◌++◌}
@@ -9,7 +10,6 @@ use native.Mathlib.Omega.{arith}
 use borrow.Author.Tests.{lt-ltb, le-ltb}
 use lib.Dec.{ltb}
 use lib.ListN.{length, drop, get_or, drop_of_length-le}
-use Rattle.clocks.specs.Clocks.{if◌then◌else◌}
 use Rattle.marks.specs.Marks.{closes, turns_of}
 use Rattle.marks.proofs.Matches.{from_here}
 use Rattle.blocks.specs.Blocks.{times, first, others, line_before, repeated, blocks_of, line_out, behind}

@@ -1,4 +1,5 @@
 -- Which number a session is refused with.
+use Rattle.std.specs.Prelude.{if◌then◌else◌}
 use mathlib.Core.Path.{◌≡◌, refl, ap, sym, ◌∙◌}
 use mathlib.Core.Bool.{Bool, true, false}
 use mathlib.Core.List.{List}
@@ -8,7 +9,6 @@ use native.Mathlib.Omega.{arith}
 use borrow.Author.Tests.{lt-ltb, le-ltb}
 use lib.Dec.{ltb, lit≤}
 use lib.ListN.{length, take, drop, length-take, length-drop}
-use Rattle.clocks.specs.Clocks.{if◌then◌else◌}
 use Rattle.lines.specs.Written.{Written}
 use Rattle.marks.specs.Matches.{match_of}
 use Rattle.blocks.specs.Blocks.{written_out}

@@ -1,4 +1,5 @@
 -- Every session that matches is a script.
+use Rattle.std.specs.Prelude.{if◌then◌else◌}
 use mathlib.Core.Path.{◌≡◌, refl, ap, sym, ◌∙◌}
 use mathlib.Core.Bool.{Bool, true, false, ◌||◌, true≢false}
 use mathlib.Core.List.{List, [], ◌∷◌, ◌++◌, append_assoc}
@@ -6,7 +7,6 @@ use Prim.Native.Nat.{ℕ, zero, suc, ◌+◌, ◌-◌, ◌<◌, ◌≤◌}
 use native.Mathlib.Omega.{arith}
 use borrow.Author.Tests.{lt-ltb, ltb-true, ltb-false}
 use lib.Dec.{eqb, ltb}
-use Rattle.clocks.specs.Clocks.{if◌then◌else◌}
 use Rattle.marks.specs.Marks.{closes, count_of, opens}
 use Rattle.marks.specs.Matches.{deeper, unmatched, match_of}
 use Rattle.marks.proofs.Matches.{at_close, at_open, at_plain, still_open}
@@ -92,7 +92,7 @@ parsed (x ∷ xs) d h a b = any x xs (λ e. parsed xs e) d (closes x) (opens x) 
 some : (n : ℕ) → 0 < n → n ≡ 0 → ⊥
 some n h e = omega arith
 
-neither : (a b : Bool) → ◌≡◌ {A = ℕ} (if a then 27 else if b then 28 else 0) 0 → (a ≡ false) × (b ≡ false)
+neither : (a b : Bool) → ◌≡◌ {A = ℕ} (if a then 27 else (if b then 28 else 0)) 0 → (a ≡ false) × (b ≡ false)
 neither true b e = absurd (some 27 (omega arith) e)
 neither false true e = absurd (some 28 (omega arith) e)
 neither false false e = (refl, refl)

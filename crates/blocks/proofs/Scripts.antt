@@ -1,4 +1,5 @@
 -- Sessions as they are meant.
+use Rattle.std.specs.Prelude.{if◌then◌else◌}
 use mathlib.Core.Path.{◌≡◌, refl, ap, ap₂, sym, ◌∙◌}
 use mathlib.Core.Bool.{Bool, true, false, ◌||◌}
 use mathlib.Core.List.{List, [], ◌∷◌, ◌++◌, append_assoc, append-nil}
@@ -6,7 +7,6 @@ use Prim.Native.Nat.{ℕ, ◌+◌, ◌-◌, ◌<◌, ◌≤◌}
 use native.Mathlib.Omega.{arith}
 use borrow.Author.Tests.{lt-ltb, le-ltb, ltb-true, ltb-false, ne_eqb}
 use lib.Dec.{ltb}
-use Rattle.clocks.specs.Clocks.{if◌then◌else◌}
 use Rattle.marks.specs.Marks.{count_of, opens, turns_of}
 use Rattle.marks.specs.Matches.{deeper, unmatched, match_of}
 use Rattle.marks.proofs.Matches.{at_close, at_open, at_plain, no_deeper, still_open}

@@ -1,11 +1,11 @@
 -- Lines given as places, and the same lines given as texts.
+use Rattle.std.specs.Prelude.{if◌then◌else◌}
 use mathlib.Core.Path.{◌≡◌, refl, ap, ap₂, sym, ◌∙◌}
 use mathlib.Core.Bool.{Bool, true, false}
 use mathlib.Core.List.{List, [], ◌∷◌, ◌++◌}
 use Prim.Native.Nat.{ℕ, zero, suc, ◌+◌, ◌-◌}
 use lib.Dec.{ltb}
 use lib.ListN.{length}
-use Rattle.clocks.specs.Clocks.{if◌then◌else◌}
 use Rattle.lines.specs.Places.{line_at, lines_at}
 use Rattle.lines.proofs.Places.{lines_length, lines_append}
 use Rattle.marks.specs.Marks.{closes, turns_of}
@@ -57,8 +57,8 @@ module _ (s : List ℕ) where
           (b c : Bool) → each (blocks_of (line_at s) (k + 1) ps) ≡ blocks_of itself (k + 1) (lines_at s ps)
           → each (blocks_of (line_at s) (k - 1) ps) ≡ blocks_of itself (k - 1) (lines_at s ps)
           → each (blocks_of (line_at s) k ps) ≡ blocks_of itself k (lines_at s ps)
-          → each (if b then [] ∷ blocks_of (line_at s) (k + 1) ps else if c then repeated (turns_of k (line_at s p)) (blocks_of (line_at s) (k - 1) ps) else line_before p (blocks_of (line_at s) k ps))
-          ≡ (if b then [] ∷ blocks_of itself (k + 1) (lines_at s ps) else if c then repeated (turns_of k (line_at s p)) (blocks_of itself (k - 1) (lines_at s ps)) else line_before (line_at s p) (blocks_of itself k (lines_at s ps)))
+          → each (if b then [] ∷ blocks_of (line_at s) (k + 1) ps else (if c then repeated (turns_of k (line_at s p)) (blocks_of (line_at s) (k - 1) ps) else line_before p (blocks_of (line_at s) k ps)))
+          ≡ (if b then [] ∷ blocks_of itself (k + 1) (lines_at s ps) else (if c then repeated (turns_of k (line_at s p)) (blocks_of itself (k - 1) (lines_at s ps)) else line_before (line_at s p) (blocks_of itself k (lines_at s ps))))
       go true c e f g = ap (λ (bs : List (List (List ℕ))). [] ∷ bs) e
       go false true e f g = each_repeated (turns_of k (line_at s p)) (blocks_of (line_at s) (k - 1) ps) ∙ ap (repeated (turns_of k (line_at s p))) f
       go false false e f g = each_line p (blocks_of (line_at s) k ps) ∙ ap (line_before (line_at s p)) g

@@ -1,7 +1,6 @@
 -- What a session with repeats comes to. Its lines may be given as texts, or as the places where they stand: `line` says which text
 -- each is.
-use Rattle.std.specs.Prelude.{List, [], ◌∷◌, ◌++◌, ℕ, zero, suc, ◌+◌, ◌-◌, ltb}
-use Rattle.clocks.specs.Clocks.{if◌then◌else◌}
+use Rattle.std.specs.Prelude.{List, [], ◌∷◌, ◌++◌, ℕ, zero, suc, ◌+◌, ◌-◌, ltb, if◌then◌else◌}
 use Rattle.marks.specs.Marks.{closes, turns_of}
 
 -- a line that is given as its text
@@ -36,8 +35,8 @@ unfoldable pub blocks_of : {A : Type 0} → (A → List ℕ) → ℕ → List A 
 blocks_of line k [] = []
 blocks_of line k (x ∷ xs) =
     if closes (line x) then [] ∷ blocks_of line (k + 1) xs else
-    if ltb (turns_of k (line x)) 65536 then repeated (turns_of k (line x)) (blocks_of line (k - 1) xs) else
-    line_before x (blocks_of line k xs)
+    (if ltb (turns_of k (line x)) 65536 then repeated (turns_of k (line x)) (blocks_of line (k - 1) xs) else
+    line_before x (blocks_of line k xs))
 
 -- all that a session writes: it begins with 4 levels
 unfoldable pub written_out : {A : Type 0} → (A → List ℕ) → List A → List A

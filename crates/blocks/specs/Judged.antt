@@ -1,6 +1,5 @@
 -- Which sessions with repeats are refused.
-use Rattle.std.specs.Prelude.{List, ℕ, ltb, length}
-use Rattle.clocks.specs.Clocks.{if◌then◌else◌}
+use Rattle.std.specs.Prelude.{List, ℕ, ltb, length, if◌then◌else◌}
 use Rattle.marks.specs.Matches.{match_of}
 use Rattle.blocks.specs.Blocks.{written_out}
 
@@ -8,6 +7,6 @@ use Rattle.blocks.specs.Blocks.{written_out}
 unfoldable pub refusal_of : {A : Type 0} → (A → List ℕ) → ℕ → List A → ℕ
 refusal_of line size xs =
     if ltb 32768 size then 26 else
-    if ltb 0 (match_of line xs) then match_of line xs else
-    if ltb 1000000 (length (written_out line xs)) then 29 else
-    0
+    (if ltb 0 (match_of line xs) then match_of line xs else
+    (if ltb 1000000 (length (written_out line xs)) then 29 else
+    0))

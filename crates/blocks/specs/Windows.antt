@@ -1,6 +1,5 @@
 -- A window on a list that is longer than any buffer: so many are passed over, then as many are noted as there is room for.
-use Rattle.std.specs.Prelude.{◌≡◌, List, [], ◌∷◌, ℕ, ◌+◌, ◌-◌, ◌<◌, ltb, length, take, drop, set}
-use Rattle.clocks.specs.Clocks.{if◌then◌else◌}
+use Rattle.std.specs.Prelude.{◌≡◌, List, [], ◌∷◌, ℕ, ◌+◌, ◌-◌, ◌<◌, ltb, length, take, drop, set, if◌then◌else◌}
 
 -- a window: how many are still to be passed over, how many are noted, and the buffer with those at its front
 pub record Window : Type 0 where
@@ -15,8 +14,8 @@ window skip used seen = record { skip = skip; used = used; seen = seen }
 unfoldable pub note_of : Window → ℕ → Window
 note_of w p =
     if ltb 0 w.skip then window (w.skip - 1) w.used w.seen else
-    if ltb w.used (length w.seen) then window 0 (w.used + 1) (set w.seen w.used p) else
-    window 0 w.used w.seen
+    (if ltb w.used (length w.seen) then window 0 (w.used + 1) (set w.seen w.used p) else
+    window 0 w.used w.seen)
 
 unfoldable pub notes : Window → List ℕ → Window
 notes w [] = w

@@ -1,11 +1,11 @@
 -- What is made of an answer is what the call leaves and its reply: the reads, the 6545's runs, and every call of the 6532.
+use Rattle.std.specs.Prelude.{if◌then◌else◌}
 use mathlib.Core.Path.{◌≡◌, refl, ap, ap₂, sym, ◌∙◌}
 use mathlib.Core.Bool.{Bool, true, false}
 use mathlib.Core.List.{List}
 use Prim.Native.Nat.{ℕ, ◌%◌, ◌<◌}
 use native.Mathlib.Nat.{mod-eq_of_lt}
 use lib.Dec.{eqb}
-use Rattle.clocks.specs.Clocks.{if◌then◌else◌}
 use Rattle.replies.specs.declared.Reply.{Reply}
 use Rattle.replies.specs.declared.Reply.TheVariants.{Refused, Number}
 use Rattle.calls.specs.declared.Call22.TheVariants as Via

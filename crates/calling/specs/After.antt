@@ -1,6 +1,5 @@
 -- What a call leaves of its chip, beside its reply.
-use Rattle.std.specs.Prelude.{◌≡◌, Bool, List, ℕ, ◌%◌}
-use Rattle.clocks.specs.Clocks.{if◌then◌else◌}
+use Rattle.std.specs.Prelude.{◌≡◌, Bool, List, ℕ, ◌%◌, if◌then◌else◌}
 use Rattle.replies.specs.declared.Reply.{Reply}
 use Rattle.replies.specs.declared.Reply.TheVariants.{Done, Data, Read, Number}
 use Rattle.calls.specs.declared.Call22.{Call22}

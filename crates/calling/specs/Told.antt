@@ -1,6 +1,5 @@
 -- What is told of a chip's answer: the reply to a call.
-use Rattle.std.specs.Prelude.{Bool, ℕ, ◌+◌, eqb}
-use Rattle.clocks.specs.Clocks.{if◌then◌else◌}
+use Rattle.std.specs.Prelude.{Bool, ℕ, ◌+◌, eqb, if◌then◌else◌}
 use Rattle.clocks.specs.Forecasts.{number_of, first_from}
 use Rattle.calls.specs.declared.Call22.{Call22}
 use Rattle.calls.specs.declared.Call22.TheVariants as Via

@@ -1,8 +1,7 @@
 // One call of a session on its chip: what is left of the chip, and the reply.
 #![tactic(auto)]
 
-ghost use Rattle.std.specs.Prelude.{◌≡◌, List, ℕ, ◌≤◌};
-ghost use Rattle.clocks.specs.Clocks.{if◌then◌else◌};
+ghost use Rattle.std.specs.Prelude.{◌≡◌, List, ℕ, ◌≤◌, if◌then◌else◌};
 ghost use Rattle.clocks.specs.Forecasts.{number_of};
 ghost use Rattle.calling.specs.Told.{replied as repliedOf, line_of, lines45 as lines45Of};
 ghost use Rattle.calling.specs.After.{done22 as done22Of, data22 as data22Of, done25 as done25Of, data25 as data25Of, done32 as done32Of, data32 as data32Of, done45 as done45Of, shown45, data45 as data45Of, turns45 as turns45Of, turned45, ran45 as ran45Of, after22, after25, After, after45};

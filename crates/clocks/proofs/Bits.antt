@@ -1,4 +1,5 @@
 -- Bytes by their bits: and, or, not, a mask, and that the bits settle the number. Widths other than 8 are other n.
+use Rattle.std.specs.Prelude.{if◌then◌else◌}
 use mathlib.Core.Path.{◌≡◌, refl, sym, ap, ap₂, ◌∙◌}
 use mathlib.Core.Bool.{Bool, true, false, not, ◌||◌, ◌&&◌, or-true, or-false, and-true, and-false, true≢false, false≢true}
 use Prim.Native.Nat.{ℕ, zero, suc, ◌+◌, ◌-◌, ◌/◌, ◌%◌, ◌^◌, ◌<◌, ◌≤◌, min, zero-le}
@@ -11,7 +12,6 @@ use lib.Bits.{bit_and, bit_or, and_step, and_le_l, and_shr, or_shr, and_mod, or_
 use borrow.Author.Tests.{eq-eqb, ne_eqb, eqb-true}
 use mathlib.Core.Logic.{◌⊎◌, inl, inr}
 use Rattle.clocks.proofs.Tests.{both, either, neither}
-use Rattle.clocks.specs.Clocks.{if◌then◌else◌}
 use Rattle.clocks.specs.Bits.{bit, with_set, with_clear, gone, with_bit, merge, shares}
 
 -- what holds of both digits holds of a number below 2
@@ -237,12 +237,12 @@ pub with_swap :
 with_swap k l a b x n =
     all_bits _ _ (λ j. two k l a b j ∙ go j (ℕ_discrete j k) ∙ sym (two l k b a j))
   where
-    two : (k l : ℕ) (a b : Bool) (j : ℕ) → bit j (with_bit k a (with_bit l b x)) ≡ (if eqb j k then a else if eqb j l then b else bit j x)
+    two : (k l : ℕ) (a b : Bool) (j : ℕ) → bit j (with_bit k a (with_bit l b x)) ≡ (if eqb j k then a else (if eqb j l then b else bit j x))
     two k l a b j = bit_with k a j (with_bit l b x) ∙ ap (λ (q : Bool). if eqb j k then a else q) (bit_with l b j x)
 
     go :
         (j : ℕ) → Dec (j ≡ k)
-        → (if eqb j k then a else if eqb j l then b else bit j x) ≡ (if eqb j l then b else if eqb j k then a else bit j x)
+        → (if eqb j k then a else (if eqb j l then b else bit j x)) ≡ (if eqb j l then b else (if eqb j k then a else bit j x))
     go j (yes e) = rw (eq-eqb j k e, ne_eqb j l (λ q. n (sym e ∙ q)))
     go j (no e) = rw (ne_eqb j k e)
 

@@ -1,4 +1,5 @@
 -- What a forecast says of every number of clocks settles it.
+use Rattle.std.specs.Prelude.{if◌then◌else◌}
 use mathlib.Core.Path.{◌≡◌, refl, sym, ap, ◌∙◌}
 use mathlib.Core.Bool.{Bool, true, false, ◌||◌, ◌&&◌, or-true, or-false, and-true, and-false, true≢false, false≢true}
 use mathlib.Core.Logic.{◌↔◌}
@@ -8,7 +9,6 @@ use native.Mathlib.Decide.{dec_lt, dec_le}
 use native.Mathlib.Omega.{arith}
 use lib.Dec.{leb, leb-zero}
 use borrow.Author.Tests.{le-leb, lt-leb, leb-true}
-use Rattle.clocks.specs.Clocks.{if◌then◌else◌}
 use Rattle.clocks.specs.Forecasts.{comes, shortened, sooner_of, first_from}
 use Rattle.clocks.specs.declared.Forecast.{Forecast}
 use Rattle.clocks.specs.declared.Forecast.TheVariants.{Never, In}

@@ -1,4 +1,5 @@
 -- Counters in closed form: down to zero, past it, and then round and round.
+use Rattle.std.specs.Prelude.{if◌then◌else◌}
 use mathlib.Core.Path.{◌≡◌, refl, sym, ap, ◌∙◌}
 use mathlib.Core.Bool.{Bool, true, false, ◌||◌}
 use mathlib.Core.Logic.{◌⊎◌, inl, inr}
@@ -8,7 +9,7 @@ use native.Mathlib.Decide.{dec_lt}
 use native.Mathlib.Omega.{arith}
 use lib.Dec.{eqb-suc-zero}
 use borrow.Author.Tests.{lt-leb, le-leb}
-use Rattle.clocks.specs.Clocks.{if◌then◌else◌, after, lower}
+use Rattle.clocks.specs.Clocks.{after, lower}
 use Rattle.clocks.specs.Forecasts.{comes}
 use Rattle.clocks.specs.declared.Forecast.TheVariants.{Never, In}
 

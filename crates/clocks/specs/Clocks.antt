@@ -1,11 +1,6 @@
 -- The words that every chip's rules are written with: if, after n clocks, and one less.
 use Rattle.std.specs.Prelude.{Bool, cond, ℕ, zero, suc, ◌-◌, eqb}
 
--- the first value where the test holds, else the second
-infixr 5 if◌then◌else◌
-abbrev pub if◌then◌else◌ : {A : Type 0} → Bool → A → A → A
-if◌then◌else◌ b x y = cond b x y
-
 -- what n turns of the rule f leave of x
 unfoldable pub after : {A : Type 0} → ℕ → (A → A) → A → A
 after zero f x = x

@@ -1,6 +1,5 @@
 -- A forecast: after how many clocks a flag is set or a line asserted, or that it never is.
-use Rattle.std.specs.Prelude.{Bool, false, ℕ, zero, suc, ◌-◌, leb}
-use Rattle.clocks.specs.Clocks.{if◌then◌else◌}
+use Rattle.std.specs.Prelude.{Bool, false, ℕ, zero, suc, ◌-◌, leb, if◌then◌else◌}
 use Rattle.clocks.specs.declared.Forecast.{Forecast}
 use Rattle.clocks.specs.declared.Forecast.TheVariants.{Never, In}
 

@@ -1,8 +1,7 @@
 // What the chips of the bench share. Most of it is meaning (specs/) and laws (proofs/); the code is the forecast and the bits of a byte.
 #![tactic(auto)]
 
-ghost use Rattle.std.specs.Prelude.{◌≡◌};
-ghost use Rattle.clocks.specs.Clocks.{if◌then◌else◌};
+ghost use Rattle.std.specs.Prelude.{◌≡◌, if◌then◌else◌};
 ghost use Rattle.clocks.specs.Forecasts.{number_of, sooner_of};
 ghost use Rattle.clocks.specs.Bits.{bit as bit_of, with_set, with_clear, gone as goneOf, merge as mergeOf, shares as shares_of};
 

@@ -1,11 +1,11 @@
 -- Every call keeps a record well formed.
+use Rattle.std.specs.Prelude.{if◌then◌else◌}
 use mathlib.Core.Path.{◌≡◌, refl}
 use mathlib.Core.Bool.{Bool, true, false}
 use Prim.Native.Nat.{ℕ, zero, suc, ◌<◌, ◌≤◌}
 use native.Mathlib.Omega.{arith}
 use lib.Dec.{ltb}
 use borrow.Author.Tests.{ltb-false}
-use Rattle.clocks.specs.Clocks.{if◌then◌else◌}
 use Rattle.clocks.proofs.Tests.{picked}
 use Rattle.clocks.proofs.Clocks.{after_keeps}
 use Rattle.calls.specs.Calls.{Typed45}
@@ -53,7 +53,7 @@ leaves_kept Reset v t e w =
 leaves_kept (Write a x) v t e w = go (ltb 1 a) (refused_form a x v) refl refl e
   where
     go :
-        (p q : Bool) → ltb 1 a ≡ p → refused_form a x v ≡ q → ◌≡◌ {A = ℕ} (if p then 3 else if q then 4 else 0) 0
+        (p q : Bool) → ltb 1 a ≡ p → refused_form a x v ≡ q → ◌≡◌ {A = ℕ} (if p then 3 else (if q then 4 else 0)) 0
         → well_formed (write_of a x v) ≡ true
     go true q p' q' z = absurd (omega (arith, z))
     go false true p' q' z = absurd (omega (arith, z))

@@ -1,10 +1,10 @@
 -- What the 6545 shows of itself: what holds of every chip holds of it.
+use Rattle.std.specs.Prelude.{if◌then◌else◌}
 use mathlib.Core.Path.{◌≡◌, refl, ap}
 use mathlib.Core.Bool.{Bool, true, false, ◌&&◌}
 use Prim.Native.Nat.{ℕ, ◌≤◌}
 use lib.Dec.{ltb, lit≤}
 use borrow.Author.Tests.{le-ltb}
-use Rattle.clocks.specs.Clocks.{if◌then◌else◌}
 use Rattle.clocks.proofs.Tests.{picked}
 use Rattle.chips.proofs.Chips.{Operands, operands_none, Lawful, Ticks}
 use Rattle.calls.specs.declared.Call45.{Call45}

@@ -1,6 +1,5 @@
 -- What a read gives and leaves, what a write leaves, and which operands are refused.
-use Rattle.std.specs.Prelude.{Bool, not, ◌&&◌, ◌||◌, ℕ, ◌+◌, ◌%◌, eqb, ltb}
-use Rattle.clocks.specs.Clocks.{if◌then◌else◌}
+use Rattle.std.specs.Prelude.{Bool, not, ◌&&◌, ◌||◌, ℕ, ◌+◌, ◌%◌, eqb, ltb, if◌then◌else◌}
 use Rattle.raster.specs.Record.{allowed_r8}
 use Rattle.raster.specs.Access.{stored}
 use Rattle.raster.specs.Signals.{signals_of}
@@ -16,10 +15,10 @@ status_of v = (if v.light.full then 64 else 0) + (if (signals_of v.raster).blank
 unfoldable pub register_of : ℕ → Crtc → ℕ
 register_of k v =
     if eqb k 14 then v.raster.registers.r14 else
-    if eqb k 15 then v.raster.registers.r15 else
-    if eqb k 16 then v.light.r16 else
-    if eqb k 17 then v.light.r17 else
-    0
+    (if eqb k 15 then v.raster.registers.r15 else
+    (if eqb k 16 then v.light.r16 else
+    (if eqb k 17 then v.light.r17 else
+    0)))
 
 -- address 0 gives the status, address 1 the register that the address register names
 abbrev pub data_of : ℕ → Crtc → ℕ
@@ -68,4 +67,4 @@ refused_form a x v = eqb a 1 && eqb v.address 8 && not (allowed_r8 x)
 
 -- an address above 1 is refused with 3, a form of R8 that is not allowed with 4
 abbrev pub write_asks : ℕ → ℕ → Crtc → ℕ
-write_asks a x v = if ltb 1 a then 3 else if refused_form a x v then 4 else 0
+write_asks a x v = if ltb 1 a then 3 else (if refused_form a x v then 4 else 0)

@@ -1,6 +1,6 @@
 -- The 6545 as a chip: what each call asks for, gives and leaves, and what an answer shows.
-use Rattle.std.specs.Prelude.{Bool, false, ◌&&◌, ℕ, eqb, ltb}
-use Rattle.clocks.specs.Clocks.{if◌then◌else◌, after}
+use Rattle.std.specs.Prelude.{Bool, false, ◌&&◌, ℕ, eqb, ltb, if◌then◌else◌}
+use Rattle.clocks.specs.Clocks.{after}
 use Rattle.chips.specs.Chips.{Chip, Clocked, first, answer}
 use Rattle.calls.specs.Calls.{Typed45}
 use Rattle.calls.specs.declared.Call45.{Call45}

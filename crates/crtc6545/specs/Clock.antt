@@ -1,6 +1,5 @@
 -- One clock, the turns of two runs, and the runs that are refused.
-use Rattle.std.specs.Prelude.{Bool, true, false, ◌&&◌, ℕ, ◌+◌, ◌-◌, ◌/◌, ◌%◌, eqb, ltb}
-use Rattle.clocks.specs.Clocks.{if◌then◌else◌}
+use Rattle.std.specs.Prelude.{Bool, true, false, ◌&&◌, ℕ, ◌+◌, ◌-◌, ◌/◌, ◌%◌, eqb, ltb, if◌then◌else◌}
 use Rattle.raster.specs.Clock.{raster_clocked}
 use Rattle.raster.specs.Signals.{signals_of}
 use Rattle.raster.specs.declared.Raster.{Raster}
@@ -31,7 +30,7 @@ clock_of v =
 
 -- the turns of two runs as one: the turn that the first one ends in is the one that the second goes on with
 abbrev pub joined : ℕ → ℕ → ℕ
-joined x y = if eqb x 0 then y else if eqb y 0 then x else x + y - 1
+joined x y = if eqb x 0 then y else (if eqb y 0 then x else x + y - 1)
 
 -- the most clocks of a run: where its turns are asked for as many as request 08 allows, and these fit four bytes
 abbrev pub longest_run : Bool → ℕ

@@ -1,6 +1,5 @@
 -- What a new level of the light pen leaves.
-use Rattle.std.specs.Prelude.{not, ◌&&◌, ◌||◌, ℕ, eqb, ltb}
-use Rattle.clocks.specs.Clocks.{if◌then◌else◌}
+use Rattle.std.specs.Prelude.{not, ◌&&◌, ◌||◌, ℕ, eqb, ltb, if◌then◌else◌}
 use Rattle.crtc6545.specs.declared.Crtc.{Crtc}
 
 -- a rise makes a strobe wait, and nothing but a clock or a reset ends the wait

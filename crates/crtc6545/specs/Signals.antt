@@ -1,6 +1,5 @@
 -- The signals as R8 shows them.
-use Rattle.std.specs.Prelude.{Bool}
-use Rattle.clocks.specs.Clocks.{if◌then◌else◌}
+use Rattle.std.specs.Prelude.{Bool, if◌then◌else◌}
 use Rattle.clocks.specs.Bits.{bit}
 use Rattle.raster.specs.Signals.{signals_of}
 use Rattle.crtc6545.specs.declared.Crtc.{Crtc}

@@ -1,8 +1,7 @@
 // The 6545: the raster of the screen, its lines as R8 shows them, and the light pen. A call takes the record and hands it back inside its answer.
 #![tactic(auto)]
 
-ghost use Rattle.std.specs.Prelude.{◌≡◌, true, false};
-ghost use Rattle.clocks.specs.Clocks.{if◌then◌else◌};
+ghost use Rattle.std.specs.Prelude.{◌≡◌, true, false, if◌then◌else◌};
 ghost use Rattle.chips.specs.Chips.{answer};
 ghost use Rattle.crtc6545.specs.Record.{well_formed, power_up};
 ghost use Rattle.crtc6545.specs.Chip.{chip, accepted as acceptedOf, refused as refusedOf, reading_of, with_turns, running_of};

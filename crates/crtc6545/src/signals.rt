@@ -1,6 +1,5 @@
 // A signal as R8 shows it.
-ghost use Rattle.std.specs.Prelude.{◌≡◌};
-ghost use Rattle.clocks.specs.Clocks.{if◌then◌else◌};
+ghost use Rattle.std.specs.Prelude.{◌≡◌, if◌then◌else◌};
 
 // The signal of now, or the one that was kept a clock before.
 pub(crate) fn skewed(skew: bool, kept: bool, now: bool) -> bool

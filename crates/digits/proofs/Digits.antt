@@ -1,7 +1,6 @@
 -- Digits: a character's value by its range, and which pairs are bytes.
-use Rattle.std.proofs.Common.{◌≡◌, ℕ, ◌+◌, ◌-◌, ◌*◌, ◌%◌, ◌<◌, ◌≤◌, ltb, ◌⊎◌, refl, inl, inr, arith, le-ltb, lt-ltb}
+use Rattle.std.proofs.Common.{◌≡◌, ℕ, ◌+◌, ◌-◌, ◌*◌, ◌%◌, ◌<◌, ◌≤◌, ltb, ◌⊎◌, refl, inl, inr, arith, le-ltb, lt-ltb, if◌then◌else◌}
 use native.Mathlib.Decide.{dec_lt}
-use Rattle.clocks.specs.Clocks.{if◌then◌else◌}
 use Rattle.digits.specs.Hex.{value_of, pair_of}
 
 -- what holds of each of two values where it is picked holds of the one that is

@@ -1,11 +1,11 @@
 -- The statements of specs/Demands.antt, proved.
+use Rattle.std.specs.Prelude.{if◌then◌else◌}
 use mathlib.Core.Path.{◌≡◌, refl, sym, ap, ◌∙◌}
 use mathlib.Core.Bool.{Bool, true, false, not, ◌&&◌, ◌||◌, or-true, or-false, and-true, and-false}
 use Prim.Native.Nat.{ℕ, ◌%◌, ◌^◌, ◌<◌, zero-le}
 use native.Mathlib.Omega.{arith}
 use lib.Dec.{eqb, lit<}
 use lib.Bits.{or_lt, and_mask}
-use Rattle.clocks.specs.Clocks.{if◌then◌else◌}
 use Rattle.clocks.specs.Bits.{bit, with_set, with_clear}
 use Rattle.clocks.proofs.Tests.{picked}
 use Rattle.clocks.proofs.Bits.{bit_and_lem, bit_not, bit_high, bit_set, bit_clear, bit_power, bit_with}

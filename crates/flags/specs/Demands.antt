@@ -1,6 +1,5 @@
 -- What demand 2 asks of the flags beyond the promises. proofs/Demands.antt has a proof of each statement, under its name in small letters.
-use Rattle.std.specs.Prelude.{◌≡◌, Bool, ◌&&◌, ◌||◌, ℕ, ◌<◌, eqb}
-use Rattle.clocks.specs.Clocks.{if◌then◌else◌}
+use Rattle.std.specs.Prelude.{◌≡◌, Bool, ◌&&◌, ◌||◌, ℕ, ◌<◌, eqb, if◌then◌else◌}
 use Rattle.clocks.specs.Bits.{bit, with_clear}
 use Rattle.flags.specs.Flags.{edge_ca1, edge_ca2, edge_cb1, edge_cb2, raised, interrupt, shown, enabled}
 

@@ -1,7 +1,6 @@
 -- What sets, clears, enables and shows the flags of the 6522.
 -- Bits of IFR: 0 CA2, 1 CA1, 2 SR, 3 CB2, 4 CB1, 5 T2, 6 T1. Bits of the control levels: 0 CA1, 1 CA2, 2 CB1, 3 CB2.
-use Rattle.std.specs.Prelude.{Bool, not, ◌&&◌, ◌||◌, ℕ, ◌/◌, ◌%◌, eqb, ltb}
-use Rattle.clocks.specs.Clocks.{if◌then◌else◌}
+use Rattle.std.specs.Prelude.{Bool, not, ◌&&◌, ◌||◌, ℕ, ◌/◌, ◌%◌, eqb, ltb, if◌then◌else◌}
 use Rattle.clocks.specs.Bits.{bit, with_set, with_clear, with_bit, shares}
 use Rattle.ports.specs.Ports.{edge}
 
@@ -71,20 +70,20 @@ flags_b pcr = if independent (code_b pcr) then 16 else 24
 
 -- any access to a port clears its flags, and any access to SR clears IFR2 (4)
 unfoldable pub access_clears : ℕ → ℕ → ℕ
-access_clears r pcr = if eqb r 0 then flags_b pcr else if eqb r 1 then flags_a pcr else if eqb r 10 then 4 else 0
+access_clears r pcr = if eqb r 0 then flags_b pcr else (if eqb r 1 then flags_a pcr else (if eqb r 10 then 4 else 0))
 
 -- besides, a read of T1's low counter clears IFR6 (64), and one of T2's low counter IFR5 (32)
 unfoldable pub read_clears : ℕ → ℕ → ℕ
-read_clears r pcr = if eqb r 4 then 64 else if eqb r 8 then 32 else access_clears r pcr
+read_clears r pcr = if eqb r 4 then 64 else (if eqb r 8 then 32 else access_clears r pcr)
 
 -- a write of T1's high counter or high latch clears IFR6, one of T2's high counter IFR5, and one of IFR the flags written as 1
 unfoldable pub write_clears : ℕ → ℕ → ℕ → ℕ
 write_clears r x pcr =
     if eqb r 5 then 64 else
-    if eqb r 7 then 64 else
-    if eqb r 9 then 32 else
-    if eqb r 13 then x % 128 else
-    access_clears r pcr
+    (if eqb r 7 then 64 else
+    (if eqb r 9 then 32 else
+    (if eqb r 13 then x % 128 else
+    access_clears r pcr)))
 
 -- ---- what IFR shows, and what IER becomes
 

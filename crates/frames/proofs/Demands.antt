@@ -1,6 +1,5 @@
 -- The statements of specs/Demands.antt, proved.
-use Rattle.std.proofs.Common.{◌≡◌, ℕ, zero, suc, ◌+◌, ◌*◌, ◌/◌, ◌%◌, ◌<◌, ◌≤◌, Bool, true, false, ◌&&◌, eqb, ltb, leb, List, [], ◌∷◌, ◌++◌, length, refl, ap, ◌∙◌, ap₂, suc-le-suc, arith, lt-ltb, le-leb, leb-true}
-use Rattle.clocks.specs.Clocks.{if◌then◌else◌}
+use Rattle.std.proofs.Common.{◌≡◌, ℕ, zero, suc, ◌+◌, ◌*◌, ◌/◌, ◌%◌, ◌<◌, ◌≤◌, Bool, true, false, ◌&&◌, eqb, ltb, leb, List, [], ◌∷◌, ◌++◌, length, refl, ap, ◌∙◌, ap₂, suc-le-suc, arith, lt-ltb, le-leb, leb-true, if◌then◌else◌}
 use Rattle.clocks.proofs.Tests.{picked, both}
 use Rattle.calls.specs.declared.Call22.TheVariants as Via
 use Rattle.calls.specs.declared.Call25.TheVariants as Tpi

@@ -1,10 +1,9 @@
 -- The frame of a line, by its length and its first two bytes.
-use Rattle.std.proofs.Common.{◌≡◌, ℕ, zero, suc, ◌+◌, ◌-◌, ◌*◌, ◌%◌, ◌<◌, ◌≤◌, Bool, true, false, not, ◌&&◌, ◌||◌, eqb, ltb, leb, ◌⊎◌, List, [], ◌∷◌, length, drop, sym, refl, ap, ◌∙◌, inl, inr, add-one, arith, drop_of_length-le, drop-cons, ltb-true, le-ltb, lt-ltb, ne_eqb, le-leb, leb-true}
+use Rattle.std.proofs.Common.{◌≡◌, ℕ, zero, suc, ◌+◌, ◌-◌, ◌*◌, ◌%◌, ◌<◌, ◌≤◌, Bool, true, false, not, ◌&&◌, ◌||◌, eqb, ltb, leb, ◌⊎◌, List, [], ◌∷◌, length, drop, sym, refl, ap, ◌∙◌, inl, inr, add-one, arith, drop_of_length-le, drop-cons, ltb-true, le-ltb, lt-ltb, ne_eqb, le-leb, leb-true, if◌then◌else◌}
 use mathlib.Core.Bool.{and-true, and-false, false≢true}
 use native.Mathlib.Decide.{dec_lt}
 use native.Mathlib.Numerals.{add-two}
 use borrow.Author.Tests.{lt-leb}
-use Rattle.clocks.specs.Clocks.{if◌then◌else◌}
 use Rattle.clocks.proofs.Tests.{both}
 use Rattle.frames.specs.Hex.{value_of, pair_of, pair_at}
 use Rattle.frames.specs.Frames.{bytes_of, are_bytes, byte, Row, table, found, called, asked, of_bytes, checked, frame_of}

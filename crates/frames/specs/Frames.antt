@@ -1,6 +1,5 @@
 -- The frame that a line is.
-use Rattle.std.specs.Prelude.{ℕ, ◌+◌, ◌*◌, Bool, true, false, ◌&&◌, List, [], ◌∷◌, ◌++◌, length, ◌==◌, nat_le, nat_lt, slice_index}
-use Rattle.clocks.specs.Clocks.{if◌then◌else◌}
+use Rattle.std.specs.Prelude.{ℕ, ◌+◌, ◌*◌, Bool, true, false, ◌&&◌, List, [], ◌∷◌, ◌++◌, length, ◌==◌, nat_le, nat_lt, slice_index, if◌then◌else◌}
 use Rattle.calls.specs.declared.Call22.TheVariants as Via
 use Rattle.calls.specs.declared.Call25.TheVariants as Tpi
 use Rattle.calls.specs.declared.Call32.TheVariants as Riot

@@ -1,4 +1,5 @@
 -- The interrupt as the code tests it: by numbers, where the definition goes by the highest in service.
+use Rattle.std.specs.Prelude.{if◌then◌else◌}
 use mathlib.Core.Path.{◌≡◌, refl, ap}
 use mathlib.Core.Bool.{Bool, true, false, not, ◌&&◌}
 use Prim.Native.Nat.{ℕ, ◌%◌, ◌<◌}
@@ -6,7 +7,6 @@ use native.Mathlib.Omega.{arith}
 use lib.Dec.{eqb, ltb, leb}
 use lib.Bits.{and_le_l}
 use borrow.Author.Tests.{le-ltb}
-use Rattle.clocks.specs.Clocks.{if◌then◌else◌}
 use Rattle.inputs.specs.Inputs.{interrupts, priority, highest_of, unmasked, shown, asserted}
 use Rattle.inputs.specs.declared.Inputs.{Inputs}
 use Rattle.inputs.proofs.Top.{below_highest}

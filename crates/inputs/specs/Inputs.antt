@@ -1,8 +1,7 @@
 -- The 6525's interrupt inputs. Input k is bit k of the latch and of what is in service, and I4 is the highest of the five.
 -- Bits of CR: 0 (MC) is interrupt mode, 1 (IP) priority, 2 (IE3) and 3 (IE4) choose the edges of I3 and I4.
-use Rattle.std.specs.Prelude.{Bool, false, not, ◌&&◌, ℕ, zero, suc, ◌%◌, ◌^◌, eqb, ltb, leb}
+use Rattle.std.specs.Prelude.{Bool, false, not, ◌&&◌, ℕ, zero, suc, ◌%◌, ◌^◌, eqb, ltb, leb, if◌then◌else◌}
 use Rattle.std.specs.Int.Bits.{bit_and}
-use Rattle.clocks.specs.Clocks.{if◌then◌else◌}
 use Rattle.clocks.specs.Bits.{bit, with_set, with_clear, with_bit}
 use Rattle.ports.specs.Ports.{edge}
 use Rattle.inputs.specs.declared.Inputs.{Inputs}
@@ -24,7 +23,7 @@ idle = record { latch = 0; service = 0 }
 
 -- whether input k is latched by its rise: I4 where IE4 is set, I3 where IE3 is; all else is latched by a fall
 abbrev pub rises : ℕ → ℕ → Bool
-rises cr k = if eqb k 4 then bit 3 cr else if eqb k 3 then bit 2 cr else false
+rises cr k = if eqb k 4 then bit 3 cr else (if eqb k 3 then bit 2 cr else false)
 
 -- whether input k made its edge, from the old level to the new
 abbrev pub edge_at : ℕ → ℕ → ℕ → ℕ → Bool

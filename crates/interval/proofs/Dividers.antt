@@ -1,6 +1,5 @@
 -- The four choices of the divider.
-use Rattle.std.proofs.Common.{◌≡◌, ℕ, zero, suc, ◌≤◌, ltb, refl, ◌∙◌, arith, le-ltb, ne_eqb}
-use Rattle.clocks.specs.Clocks.{if◌then◌else◌}
+use Rattle.std.proofs.Common.{◌≡◌, ℕ, zero, suc, ◌≤◌, ltb, refl, ◌∙◌, arith, le-ltb, ne_eqb, if◌then◌else◌}
 use Rattle.interval.specs.Timer.{divider_of}
 
 -- a choice k is its own place i, or has x if it is above 3; what follows from each place, with its divider, follows from k

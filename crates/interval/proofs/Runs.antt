@@ -1,9 +1,9 @@
 -- The timer is a counter that passes zero, at every divider: n of its clocks, and when its flag is set.
-use Rattle.std.proofs.Common.{◌≡◌, ℕ, suc, ◌+◌, ◌-◌, ◌*◌, ◌/◌, ◌%◌, ◌<◌, ◌≤◌, Bool, true, false, not, eqb, ◌⊎◌, refl, ap, ◌∙◌, inl, inr, mul_comm, arith, ne_eqb}
+use Rattle.std.proofs.Common.{◌≡◌, ℕ, suc, ◌+◌, ◌-◌, ◌*◌, ◌/◌, ◌%◌, ◌<◌, ◌≤◌, Bool, true, false, not, eqb, ◌⊎◌, refl, ap, ◌∙◌, inl, inr, mul_comm, arith, ne_eqb, if◌then◌else◌}
 use native.Mathlib.Nat.{zero-mod, zero-div}
 use lib.Dec.{eqb-suc-zero}
 use lib.Arith.{digits_div, digits_mod}
-use Rattle.clocks.specs.Clocks.{if◌then◌else◌, after}
+use Rattle.clocks.specs.Clocks.{after}
 use Rattle.clocks.specs.Forecasts.{comes}
 use Rattle.clocks.specs.declared.Forecast.{Forecast}
 use Rattle.clocks.specs.declared.Forecast.TheVariants.{Never, In}

@@ -1,6 +1,5 @@
 -- What the code computes in place of single clocks. No promise of a public function rests on it: proofs/ shows that the clocks lead there.
-use Rattle.std.specs.Prelude.{ℕ, ◌+◌, ◌-◌, ◌*◌, ◌/◌, ◌%◌, true, not, ◌||◌}
-use Rattle.clocks.specs.Clocks.{if◌then◌else◌}
+use Rattle.std.specs.Prelude.{ℕ, ◌+◌, ◌-◌, ◌*◌, ◌/◌, ◌%◌, true, not, ◌||◌, if◌then◌else◌}
 use Rattle.clocks.specs.declared.Forecast.{Forecast}
 use Rattle.clocks.specs.declared.Forecast.TheVariants.{Never, In}
 use Rattle.interval.specs.Timer.{moved}
@@ -28,4 +27,4 @@ spent k t =
 
 -- when the flag of a well-formed timer is set
 abbrev pub due_of : Timer → Forecast
-due_of t = if t.flag then In 0 else if t.expired then Never else In (counts_of t + 1)
+due_of t = if t.flag then In 0 else (if t.expired then Never else In (counts_of t + 1))

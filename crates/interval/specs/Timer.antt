@@ -1,6 +1,6 @@
 -- The interval timer: which ones are well formed, power-up, a load, one clock, and when the flag is due.
-use Rattle.std.specs.Prelude.{◌≡◌, ℕ, ◌-◌, Bool, true, false, not, ◌&&◌, ◌||◌, ◌==◌, nat_eq, nat_le}
-use Rattle.clocks.specs.Clocks.{if◌then◌else◌, after, lower}
+use Rattle.std.specs.Prelude.{◌≡◌, ℕ, ◌-◌, Bool, true, false, not, ◌&&◌, ◌||◌, ◌==◌, nat_eq, nat_le, if◌then◌else◌}
+use Rattle.clocks.specs.Clocks.{after, lower}
 use Rattle.clocks.specs.Forecasts.{comes}
 use Rattle.clocks.specs.declared.Forecast.{Forecast}
 use Rattle.clocks.specs.declared.Forecast.TheVariants.{In}
@@ -20,7 +20,7 @@ well_timed t =
 
 -- the divider that the two address bits pick
 abbrev pub divider_of : ℕ → ℕ
-divider_of k = if k == 0 then 1 else if k == 1 then 8 else if k == 2 then 64 else 1024
+divider_of k = if k == 0 then 1 else (if k == 1 then 8 else (if k == 2 then 64 else 1024))
 
 -- a load starts the timer anew at a value: the first clock counts, and the flag is clear
 abbrev pub loaded : ℕ → ℕ → Bool → Timer
@@ -57,8 +57,8 @@ passed t = record { value = 255; divider = t.divider; prescaler = 1; expired = t
 unfoldable pub clocked : Timer → Timer
 clocked t =
     if t.expired then moved (lower 256 t.value) t.prescaler t else
-    if t.prescaler - 1 == 0 then (if nat_eq t.value 0 then passed t else moved (t.value - 1) t.divider t) else
-    moved t.value (t.prescaler - 1) t
+    (if t.prescaler - 1 == 0 then (if nat_eq t.value 0 then passed t else moved (t.value - 1) t.divider t) else
+    moved t.value (t.prescaler - 1) t)
 
 -- f says of every number of clocks whether the flag is set after it, now included; of an ill-formed timer it says 0
 pub record Due (t : Timer) (f : Forecast) : Type 0 where

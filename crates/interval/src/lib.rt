@@ -1,8 +1,8 @@
 // The 6532's interval timer by value: a byte that counts down behind a divider, with a flag for its first passing of zero.
 #![tactic(auto)]
 
-ghost use Rattle.std.specs.Prelude.{◌≡◌, ◌^◌, ◌<◌};
-ghost use Rattle.clocks.specs.Clocks.{if◌then◌else◌, after};
+ghost use Rattle.std.specs.Prelude.{◌≡◌, ◌^◌, ◌<◌, if◌then◌else◌};
+ghost use Rattle.clocks.specs.Clocks.{after};
 ghost use Rattle.interval.specs.Timer.{well_timed, power_up, divider_of, loaded, clocked, Due};
 
 use clocks::{Forecast, choose8};

@@ -1,8 +1,9 @@
 -- The proofs of specs/Demands.antt.
+use Rattle.std.specs.Prelude.{if◌then◌else◌}
 use mathlib.Core.Path.{◌≡◌, refl, sym, ap, ◌∙◌}
 use mathlib.Core.Bool.{Bool, true, false}
 use Prim.Native.Nat.{ℕ}
-use Rattle.clocks.specs.Clocks.{if◌then◌else◌, after}
+use Rattle.clocks.specs.Clocks.{after}
 use Rattle.clocks.proofs.Clocks.{after_keeps, after_still, after_agree}
 use Rattle.timers.specs.Pair as Pair
 use Rattle.timers.specs.Pair.{clocked}

@@ -1,6 +1,6 @@
 -- What a call gives for a pair that is lent to it: a number, and the pair as it is then.
-use Rattle.std.specs.Prelude.{ℕ}
-use Rattle.clocks.specs.Clocks.{if◌then◌else◌, after}
+use Rattle.std.specs.Prelude.{ℕ, if◌then◌else◌}
+use Rattle.clocks.specs.Clocks.{after}
 use Rattle.timers.specs.Pair.{well_formed, clocked}
 use Rattle.timers.specs.declared.Timers.{Timers}
 

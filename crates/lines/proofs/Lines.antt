@@ -1,4 +1,5 @@
 -- The lines of a file that is cut, and of one that is put together from lines.
+use Rattle.std.specs.Prelude.{if◌then◌else◌}
 use mathlib.Core.Path.{◌≡◌, refl, ap, sym, ◌∙◌}
 use mathlib.Core.Bool.{Bool, true, false}
 use mathlib.Core.List.{List, [], ◌∷◌, ◌++◌, append_assoc, append-nil}
@@ -7,7 +8,6 @@ use native.Mathlib.Omega.{arith}
 use lib.Dec.{eqb}
 use lib.ListN.{length, take}
 use borrow.Author.Tests.{eqb-true}
-use Rattle.clocks.specs.Clocks.{if◌then◌else◌}
 use Rattle.lines.specs.Lines.{ended, open_line, last_line, file_of, Quiet, Quiets}
 
 -- cutting a file in two cuts its list of lines in two, the second part starting in the line that the first left open

@@ -1,6 +1,5 @@
 -- The lines of a file: an LF, which is 10, ends each; what follows the last LF is a line too, unless it is empty.
-use Rattle.std.specs.Prelude.{◌≡◌, false, List, [], ◌∷◌, ◌++◌, ℕ, suc, ◌+◌, eqb, leb, length, drop}
-use Rattle.clocks.specs.Clocks.{if◌then◌else◌}
+use Rattle.std.specs.Prelude.{◌≡◌, false, List, [], ◌∷◌, ◌++◌, ℕ, suc, ◌+◌, eqb, leb, length, drop, if◌then◌else◌}
 
 -- the finished lines of s, l being the start of the first one
 abbrev pub ended : List ℕ → List ℕ → List (List ℕ)

@@ -1,6 +1,5 @@
 -- Places of lines in a text. A place is where a line begins and where it ends, as one number.
-use Rattle.std.specs.Prelude.{List, [], ◌∷◌, ℕ, ◌+◌, ◌-◌, ◌*◌, ◌/◌, ◌%◌, leb, length, take, drop}
-use Rattle.clocks.specs.Clocks.{if◌then◌else◌}
+use Rattle.std.specs.Prelude.{List, [], ◌∷◌, ℕ, ◌+◌, ◌-◌, ◌*◌, ◌/◌, ◌%◌, leb, length, take, drop, if◌then◌else◌}
 use Rattle.lines.specs.Lines.{lines_of}
 
 abbrev pub placed : ℕ → ℕ → ℕ

@@ -1,7 +1,7 @@
 -- What is left of a pulse is forgotten: two screens that differ in HSYNC and VSYNC alone are one after some clocks and line ends.
-use Rattle.std.proofs.Common.{◌≡◌, ℕ, zero, suc, ◌+◌, ◌-◌, ◌%◌, ◌≤◌, Bool, true, false, not, ◌&&◌, eqb, sym, refl, ap, ◌∙◌, arith}
+use Rattle.std.proofs.Common.{◌≡◌, ℕ, zero, suc, ◌+◌, ◌-◌, ◌%◌, ◌≤◌, Bool, true, false, not, ◌&&◌, eqb, sym, refl, ap, ◌∙◌, arith, if◌then◌else◌}
 use native.Mathlib.Nat.{sub-zero}
-use Rattle.clocks.specs.Clocks.{if◌then◌else◌, after}
+use Rattle.clocks.specs.Clocks.{after}
 use Rattle.clocks.proofs.Tests.{on_true, on_false}
 use Rattle.raster.specs.Clock.{with_vsync, new_frame, adjust_moved, row_ended, frame_moved, vsync_width, vsync_started, line_ended, line_clocked, raster_clocked}
 use Rattle.raster.specs.declared.Registers.{Registers}
@@ -37,8 +37,8 @@ moved_vsync r x f =
     go :
         (a b c d e : Bool) (m n o p q s : Frame)
         → (if a then (if b then with_vsync x m else with_vsync x n) else
-        if c then (if d then (if e then with_vsync x o else with_vsync x p) else with_vsync x q) else with_vsync x s)
-        ≡ with_vsync x (if a then (if b then m else n) else if c then (if d then (if e then o else p) else q) else s)
+        (if c then (if d then (if e then with_vsync x o else with_vsync x p) else with_vsync x q) else with_vsync x s))
+        ≡ with_vsync x (if a then (if b then m else n) else (if c then (if d then (if e then o else p) else q) else s))
     go true true c d e m n o p q s = refl
     go true false c d e m n o p q s = refl
     go false b true true true m n o p q s = refl

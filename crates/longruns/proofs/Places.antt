@@ -1,8 +1,8 @@
 -- A frame's line ends, VSYNC apart, are counts down to a new frame, and then round and round: an instance of the laws of clocks.
-use Rattle.std.proofs.Common.{◌≡◌, ℕ, suc, ◌+◌, ◌-◌, ◌*◌, ◌/◌, ◌%◌, ◌<◌, ◌≤◌, Bool, true, false, eqb, ltb, ◌⊎◌, sym, refl, ap, ◌∙◌, inl, inr, mul-le-mul_right, mod-lt, suc-mul, mul-le-mul, mul-zero, div-add-mod', zero-mul, mul-suc, mul-add, div-mul-le_self, arith, le-ltb, lt-ltb, eq-eqb, ne_eqb}
+use Rattle.std.proofs.Common.{◌≡◌, ℕ, suc, ◌+◌, ◌-◌, ◌*◌, ◌/◌, ◌%◌, ◌<◌, ◌≤◌, Bool, true, false, eqb, ltb, ◌⊎◌, sym, refl, ap, ◌∙◌, inl, inr, mul-le-mul_right, mod-lt, suc-mul, mul-le-mul, mul-zero, div-add-mod', zero-mul, mul-suc, mul-add, div-mul-le_self, arith, le-ltb, lt-ltb, eq-eqb, ne_eqb, if◌then◌else◌}
 use native.Mathlib.Nat.{sub-zero, sub_self, zero-div, add-mul-div_right}
 use native.Mathlib.Decide.{dec_lt, dec_le, ℕ_discrete}
-use Rattle.clocks.specs.Clocks.{if◌then◌else◌, after}
+use Rattle.clocks.specs.Clocks.{after}
 use Rattle.clocks.proofs.Tests.{on_true, on_false}
 use Rattle.clocks.proofs.Turns.{one_more, Within, Turned, Turns, after_short, after_past}
 use Rattle.raster.specs.Clock.{with_scan, with_row, with_row_start, with_adjust, row_done, new_frame, adjust_moved, row_ended, frame_moved}

@@ -1,6 +1,6 @@
 -- What the code computes of a frame at once: where line ends bring it, VSYNC apart.
-use Rattle.std.specs.Prelude.{ℕ, ◌+◌, ◌-◌, ◌*◌, ◌/◌, ◌%◌, ◌<◌, ◌≤◌, true, false, nat_lt}
-use Rattle.clocks.specs.Clocks.{if◌then◌else◌, after}
+use Rattle.std.specs.Prelude.{ℕ, ◌+◌, ◌-◌, ◌*◌, ◌/◌, ◌%◌, ◌<◌, ◌≤◌, true, false, nat_lt, if◌then◌else◌}
+use Rattle.clocks.specs.Clocks.{after}
 use Rattle.raster.specs.Record.{start_of}
 use Rattle.raster.specs.Clock.{with_row, with_scan, with_adjust, with_row_start, frame_moved}
 use Rattle.raster.specs.declared.Registers.{Registers}
@@ -59,8 +59,8 @@ at_row r f x = in_row r f (rows_left r f x) (x - rows_left r f x * (r.r9 + 1))
 unfoldable pub place_of : Registers → Frame → ℕ → Frame
 place_of r f k =
     if f.adjusting then with_adjust true ((r.r5 + 31 - k) % 32) f else
-    if nat_lt k r.r5 then in_adjust r f (r.r5 - 1 - k) else
-    at_row r f (k - r.r5)
+    (if nat_lt k r.r5 then in_adjust r f (r.r5 - 1 - k) else
+    at_row r f (k - r.r5))
 
 -- a frame with another field number
 abbrev pub with_field : ℕ → Frame → Frame

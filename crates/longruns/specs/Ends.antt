@@ -1,6 +1,6 @@
 -- The line ends that clocks pass, and their turns.
-use Rattle.std.specs.Prelude.{ℕ, zero, suc, ◌+◌}
-use Rattle.clocks.specs.Clocks.{if◌then◌else◌, after}
+use Rattle.std.specs.Prelude.{ℕ, zero, suc, ◌+◌, if◌then◌else◌}
+use Rattle.clocks.specs.Clocks.{after}
 use Rattle.raster.specs.Clock.{ends_line, raster_clocked}
 use Rattle.raster.specs.declared.Raster.{Raster}
 

@@ -1,4 +1,5 @@
 -- How deep repeats stand, and whether they match, line by line.
+use Rattle.std.specs.Prelude.{if◌then◌else◌}
 use mathlib.Core.Path.{◌≡◌, refl, ap, ◌∙◌}
 use mathlib.Core.Bool.{Bool, true, false, ◌||◌}
 use mathlib.Core.List.{List, [], ◌∷◌}
@@ -8,7 +9,6 @@ use native.Mathlib.Omega.{arith}
 use borrow.Author.Tests.{lt-ltb, le-ltb, eq-eqb, ne_eqb}
 use lib.Dec.{eqb, ltb}
 use lib.ListN.{length, drop, get_or, drop_of_length-le}
-use Rattle.clocks.specs.Clocks.{if◌then◌else◌}
 use Rattle.marks.specs.Marks.{closes, count_of, turns_of}
 use Rattle.marks.specs.Matches.{deeper, unmatched, match_of}
 use lib.Seq.{drop-cons}

@@ -1,6 +1,5 @@
 -- Which lines open a repeat, and which close one.
-use Rattle.std.specs.Prelude.{Bool, ◌&&◌, List, ℕ, eqb, ltb, length, get_or}
-use Rattle.clocks.specs.Clocks.{if◌then◌else◌}
+use Rattle.std.specs.Prelude.{Bool, ◌&&◌, List, ℕ, eqb, ltb, length, get_or, if◌then◌else◌}
 use Rattle.digits.specs.Hex.{word_of}
 
 -- the character at k; F is 70, 0 is 48, 1 is 49

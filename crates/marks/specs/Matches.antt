@@ -1,7 +1,6 @@
 -- How deep repeats stand, and whether each is closed. Lines may be given as texts, or as the places where they stand: `line` says which
 -- text each is.
-use Rattle.std.specs.Prelude.{Bool, false, ◌||◌, List, [], ◌∷◌, ℕ, ◌+◌, ◌-◌, eqb, ltb}
-use Rattle.clocks.specs.Clocks.{if◌then◌else◌}
+use Rattle.std.specs.Prelude.{Bool, false, ◌||◌, List, [], ◌∷◌, ℕ, ◌+◌, ◌-◌, eqb, ltb, if◌then◌else◌}
 use Rattle.marks.specs.Marks.{closes, opens}
 
 -- some line opens a repeat inside 4 others, d being open before these lines; a close with none open closes nothing
@@ -9,17 +8,17 @@ unfoldable pub deeper : {A : Type 0} → (A → List ℕ) → ℕ → List A →
 deeper line d [] = false
 deeper line d (x ∷ xs) =
     if closes (line x) then deeper line (d - 1) xs else
-    if opens (line x) then ltb 4 (d + 1) || deeper line (d + 1) xs else
-    deeper line d xs
+    (if opens (line x) then ltb 4 (d + 1) || deeper line (d + 1) xs else
+    deeper line d xs)
 
 -- some line closes with none open, or a repeat is still open at the end
 unfoldable pub unmatched : {A : Type 0} → (A → List ℕ) → ℕ → List A → Bool
 unmatched line d [] = ltb 0 d
 unmatched line d (x ∷ xs) =
     if closes (line x) then eqb d 0 || unmatched line (d - 1) xs else
-    if opens (line x) then unmatched line (d + 1) xs else
-    unmatched line d xs
+    (if opens (line x) then unmatched line (d + 1) xs else
+    unmatched line d xs)
 
 -- 27 where repeats stand too deep, or else 28 where one is unmatched; 0 where neither is so
 unfoldable pub match_of : {A : Type 0} → (A → List ℕ) → List A → ℕ
-match_of line xs = if deeper line 0 xs then 27 else if unmatched line 0 xs then 28 else 0
+match_of line xs = if deeper line 0 xs then 27 else (if unmatched line 0 xs then 28 else 0)

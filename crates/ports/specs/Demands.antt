@@ -1,6 +1,5 @@
 -- What demand 2 asks of ports beyond the promises. proofs/Demands.antt has a proof of each statement, under its name in small letters.
-use Rattle.std.specs.Prelude.{◌≡◌, ℕ, ◌<◌}
-use Rattle.clocks.specs.Clocks.{if◌then◌else◌}
+use Rattle.std.specs.Prelude.{◌≡◌, ℕ, ◌<◌, if◌then◌else◌}
 use Rattle.clocks.specs.Bits.{bit}
 use Rattle.ports.specs.Ports.{lines_for, silent, fresh}
 use Rattle.ports.specs.declared.Port.{Port}

@@ -1,6 +1,5 @@
 -- The lines of a port, its reset and its power-up, and the edges of a level.
-use Rattle.std.specs.Prelude.{Bool, not, ◌&&◌, ℕ}
-use Rattle.clocks.specs.Clocks.{if◌then◌else◌}
+use Rattle.std.specs.Prelude.{Bool, not, ◌&&◌, ℕ, if◌then◌else◌}
 use Rattle.clocks.specs.Bits.{merge}
 use Rattle.ports.specs.declared.Port.{Port}
 

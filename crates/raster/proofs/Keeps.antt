@@ -1,7 +1,6 @@
 -- A clock, a write and a reset keep a raster well formed.
-use Rattle.std.proofs.Common.{◌≡◌, ℕ, ◌+◌, ◌/◌, ◌%◌, ◌<◌, Bool, true, false, not, ◌&&◌, ◌||◌, eqb, List, [], ◌∷◌, refl, mod-lt, mod-eq_of_lt, arith, lit<, eqb-true}
+use Rattle.std.proofs.Common.{◌≡◌, ℕ, ◌+◌, ◌/◌, ◌%◌, ◌<◌, Bool, true, false, not, ◌&&◌, ◌||◌, eqb, List, [], ◌∷◌, refl, mod-lt, mod-eq_of_lt, arith, lit<, eqb-true, if◌then◌else◌}
 use borrow.Author.Tests.{not-false}
-use Rattle.clocks.specs.Clocks.{if◌then◌else◌}
 use Rattle.clocks.specs.Bits.{bit}
 use Rattle.clocks.specs.Ranges.{within}
 use Rattle.clocks.proofs.Tests.{picked}

@@ -1,8 +1,8 @@
 -- Clocks that end no line, and the one that does.
-use Rattle.std.proofs.Common.{◌≡◌, ℕ, zero, suc, ◌+◌, ◌-◌, ◌%◌, ◌<◌, ◌≤◌, Bool, true, false, eqb, sym, refl, ap, ◌∙◌, ap₂, arith, le-ltb, lt-ltb, eq-eqb, ne_eqb, le-leb}
+use Rattle.std.proofs.Common.{◌≡◌, ℕ, zero, suc, ◌+◌, ◌-◌, ◌%◌, ◌<◌, ◌≤◌, Bool, true, false, eqb, sym, refl, ap, ◌∙◌, ap₂, arith, le-ltb, lt-ltb, eq-eqb, ne_eqb, le-leb, if◌then◌else◌}
 use native.Mathlib.Decide.{dec_lt, dec_le, ℕ_discrete}
 use borrow.Author.Tests.{lt-leb}
-use Rattle.clocks.specs.Clocks.{if◌then◌else◌, after}
+use Rattle.clocks.specs.Clocks.{after}
 use Rattle.clocks.proofs.Clocks.{after_add}
 use Rattle.clocks.proofs.Tests.{on_true, on_false}
 use Rattle.raster.specs.Clock.{line_clocked, line_ended, raster_clocked}

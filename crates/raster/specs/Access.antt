@@ -1,6 +1,5 @@
 -- What a write of a register leaves.
-use Rattle.std.specs.Prelude.{ℕ, ◌%◌, ◌==◌}
-use Rattle.clocks.specs.Clocks.{if◌then◌else◌}
+use Rattle.std.specs.Prelude.{ℕ, ◌%◌, ◌==◌, if◌then◌else◌}
 use Rattle.raster.specs.Record.{size_of}
 use Rattle.raster.specs.declared.Registers.{Registers}
 use Rattle.raster.specs.declared.Raster.{Raster}

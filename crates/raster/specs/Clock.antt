@@ -1,6 +1,5 @@
 -- One clock of the line and of the frame, step by step, in document 01's order.
-use Rattle.std.specs.Prelude.{ℕ, ◌+◌, ◌-◌, ◌/◌, ◌%◌, Bool, true, false, not, ◌&&◌, ◌==◌, nat_eq}
-use Rattle.clocks.specs.Clocks.{if◌then◌else◌}
+use Rattle.std.specs.Prelude.{ℕ, ◌+◌, ◌-◌, ◌/◌, ◌%◌, Bool, true, false, not, ◌&&◌, ◌==◌, nat_eq, if◌then◌else◌}
 use Rattle.raster.specs.Record.{start_of}
 use Rattle.raster.specs.declared.Registers.{Registers}
 use Rattle.raster.specs.declared.Line.{Line}
@@ -131,8 +130,8 @@ row_ended r f =
 unfoldable pub frame_moved : Registers → Frame → Frame
 frame_moved r f =
     if f.adjusting then adjust_moved r f else
-    if f.scan == r.r9 then row_ended r f else
-    with_scan ((f.scan + 1) % 32) f
+    (if f.scan == r.r9 then row_ended r f else
+    with_scan ((f.scan + 1) % 32) f)
 
 -- how many lines a VSYNC takes: R3's high four bits, where 0 counts as 16
 abbrev pub vsync_width : Registers → ℕ

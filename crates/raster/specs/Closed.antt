@@ -1,6 +1,5 @@
 -- What the code computes of a line in one step.
-use Rattle.std.specs.Prelude.{ℕ, ◌+◌, ◌-◌, ◌%◌, ◌&&◌, nat_le, nat_lt}
-use Rattle.clocks.specs.Clocks.{if◌then◌else◌}
+use Rattle.std.specs.Prelude.{ℕ, ◌+◌, ◌-◌, ◌%◌, ◌&&◌, nat_le, nat_lt, if◌then◌else◌}
 use Rattle.raster.specs.declared.Registers.{Registers}
 use Rattle.raster.specs.declared.Line.{Line}
 

@@ -1,6 +1,5 @@
 -- The raster: which ones are well formed, what power-up gives, and what a reset changes.
-use Rattle.std.specs.Prelude.{ℕ, ◌+◌, ◌*◌, Bool, true, false, not, ◌&&◌, ◌||◌, List, [], ◌∷◌, ◌==◌}
-use Rattle.clocks.specs.Clocks.{if◌then◌else◌}
+use Rattle.std.specs.Prelude.{ℕ, ◌+◌, ◌*◌, Bool, true, false, not, ◌&&◌, ◌||◌, List, [], ◌∷◌, ◌==◌, if◌then◌else◌}
 use Rattle.clocks.specs.Bits.{bit}
 use Rattle.clocks.specs.Ranges.{within}
 use Rattle.raster.specs.declared.Registers.{Registers}
@@ -18,9 +17,9 @@ allowed_r8 x = not (bit 0 x || bit 1 x || bit 3 x || bit 6 x || bit 7 x)
 abbrev pub size_of : ℕ → ℕ
 size_of k =
     if k == 4 || k == 6 || k == 7 || k == 10 then 128 else
-    if k == 12 || k == 14 || k == 18 then 64 else
-    if k == 5 || k == 9 || k == 11 then 32 else
-    256
+    (if k == 12 || k == 14 || k == 18 then 64 else
+    (if k == 5 || k == 9 || k == 11 then 32 else
+    256))
 
 -- the registers by number, and the range of each
 abbrev pub numbered : Registers → List (ℕ × ℕ)

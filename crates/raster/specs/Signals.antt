@@ -1,6 +1,5 @@
 -- The signals of a raster as it is.
-use Rattle.std.specs.Prelude.{ℕ, ◌+◌, ◌*◌, ◌/◌, ◌%◌, Bool, true, false, not, ◌&&◌, ◌||◌, ltb, ◌==◌, nat_le, nat_lt}
-use Rattle.clocks.specs.Clocks.{if◌then◌else◌}
+use Rattle.std.specs.Prelude.{ℕ, ◌+◌, ◌*◌, ◌/◌, ◌%◌, Bool, true, false, not, ◌&&◌, ◌||◌, ltb, ◌==◌, nat_le, nat_lt, if◌then◌else◌}
 use Rattle.clocks.specs.Bits.{bit}
 use Rattle.raster.specs.declared.Registers.{Registers}
 use Rattle.raster.specs.declared.Line.{Line}
@@ -32,9 +31,9 @@ de_of r l f = not (blanking_of r f) && nat_lt l.column r.r1
 unfoldable pub blink_of : Registers → ℕ → Bool
 blink_of r field =
     if r.r10 / 32 % 4 == 0 then true else
-    if r.r10 / 32 % 4 == 1 then false else
-    if r.r10 / 32 % 4 == 2 then ltb (field % 16) 8 else
-    nat_lt field 16
+    (if r.r10 / 32 % 4 == 1 then false else
+    (if r.r10 / 32 % 4 == 2 then ltb (field % 16) 8 else
+    nat_lt field 16))
 
 -- the cursor is here: at its address, on its lines (first in R10's low five bits, last in R11), in its mode
 unfoldable pub marked_of : Registers → ℕ → ℕ → ℕ → Bool

@@ -1,4 +1,5 @@
 -- The windows of a session, one after the other.
+use Rattle.std.specs.Prelude.{if◌then◌else◌}
 use mathlib.Core.Path.{◌≡◌, refl, ap, sym, ◌∙◌}
 use mathlib.Core.Bool.{Bool, true, false, ◌&&◌, true≢false}
 use mathlib.Core.List.{List, ◌++◌}
@@ -9,7 +10,6 @@ use borrow.Author.Tests.{le-ltb, ltb-false}
 use lib.Dec.{ltb}
 use lib.ListN.{length, take, drop, length-take, length-drop}
 use lib.Seq.{take-add, take-take, take-length}
-use Rattle.clocks.specs.Clocks.{if◌then◌else◌}
 use Rattle.lines.specs.Places.{lines_at, cut_of}
 use Rattle.blocks.specs.Blocks.{itself, written_out}
 use Rattle.session.specs.Steps.{power_up}

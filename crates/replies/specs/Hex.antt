@@ -1,6 +1,5 @@
 -- Upper-case hexadecimal: the two digits of a byte, and the eight of four bytes.
-use Rattle.std.specs.Prelude.{ℕ, ◌+◌, ◌/◌, ◌%◌, List, [], ◌∷◌, ◌++◌, ltb}
-use Rattle.clocks.specs.Clocks.{if◌then◌else◌}
+use Rattle.std.specs.Prelude.{ℕ, ◌+◌, ◌/◌, ◌%◌, List, [], ◌∷◌, ◌++◌, ltb, if◌then◌else◌}
 
 -- 0 to 9 are the characters from 48 on, ten to fifteen those from 65 on
 abbrev pub digit_of : ℕ → ℕ

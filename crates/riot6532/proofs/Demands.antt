@@ -1,10 +1,10 @@
 -- The statements of specs/Demands.antt, proved.
+use Rattle.std.specs.Prelude.{if◌then◌else◌}
 use mathlib.Core.Path.{◌≡◌, refl, ap, ap₂, ◌∙◌}
 use mathlib.Core.Bool.{Bool, not, ◌&&◌}
 use mathlib.Core.List.{[]}
 use Prim.Native.Nat.{ℕ}
 use lib.Dec.{eqb}
-use Rattle.clocks.specs.Clocks.{if◌then◌else◌}
 use Rattle.clocks.specs.Bits.{bit, with_bit}
 use Rattle.clocks.proofs.Bits.{bit_none, bit_clear, bit_with}
 use Rattle.calls.specs.declared.Call32.TheVariants.{Read}

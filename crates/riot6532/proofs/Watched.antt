@@ -1,9 +1,9 @@
 -- What the 6532 shows of its interrupt line: when it is asserted, and how far ahead that can be.
+use Rattle.std.specs.Prelude.{if◌then◌else◌}
 use mathlib.Core.Path.{◌≡◌, refl}
 use mathlib.Core.Bool.{true, ◌&&◌}
 use Prim.Native.Nat.{ℕ, ◌<◌, zero-le}
 use lib.Dec.{lit<, lit≤}
-use Rattle.clocks.specs.Clocks.{if◌then◌else◌}
 use Rattle.clocks.specs.Bits.{bit}
 use Rattle.clocks.specs.Forecasts.{comes}
 use Rattle.clocks.specs.declared.Forecast.{Forecast}

@@ -1,6 +1,5 @@
 -- What an address names, what a read of it gives and leaves, and what a write to it leaves.
-use Rattle.std.specs.Prelude.{false, not, ℕ, ◌%◌, eqb, get_or, set}
-use Rattle.clocks.specs.Clocks.{if◌then◌else◌}
+use Rattle.std.specs.Prelude.{false, not, ℕ, ◌%◌, eqb, get_or, set, if◌then◌else◌}
 use Rattle.clocks.specs.Bits.{bit, with_bit}
 use Rattle.interval.specs.Timer.{loaded, flagged}
 use Rattle.ports.specs.Ports.{lines_of}
@@ -35,8 +34,8 @@ port_written k x io =
 unfoldable pub io_written : ℕ → ℕ → Io → Io
 io_written a x io =
     if not (bit 2 a) then port_written (a % 4) x io else
-    if bit 4 a then with_timer (loaded (a % 4) x (bit 3 a)) io else
-    with_pa7 (record { flag = io.pa7.flag; enable = bit 1 a; rising = bit 0 a }) io
+    (if bit 4 a then with_timer (loaded (a % 4) x (bit 3 a)) io else
+    with_pa7 (record { flag = io.pa7.flag; enable = bit 1 a; rising = bit 0 a }) io)
 
 -- address bit 7 parts the RAM from all else
 unfoldable pub write_of : ℕ → ℕ → Riot → Riot
@@ -47,7 +46,7 @@ write_of a x v = if not (bit 7 a) then beside (set v.ram (a % 128) x) v.io else 
 -- a port is read off its lines, a direction as it was written
 abbrev pub port_data : ℕ → Io → ℕ
 port_data k io =
-    if eqb k 0 then lines_of io.a else if eqb k 1 then io.a.ddr else if eqb k 2 then lines_of io.b else io.b.ddr
+    if eqb k 0 then lines_of io.a else (if eqb k 1 then io.a.ddr else (if eqb k 2 then lines_of io.b else io.b.ddr))
 
 -- both flags in one byte: bit 7 is the timer's, bit 6 PA7's, and the others are 0
 unfoldable pub flags_of : Io → ℕ
@@ -55,7 +54,7 @@ flags_of io = with_bit 7 io.timer.flag (with_bit 6 io.pa7.flag 0)
 
 -- bit 2 clear: a port or a direction; set: the timer where bit 0 is clear, the flags where it is set
 unfoldable pub io_data : ℕ → Io → ℕ
-io_data a io = if not (bit 2 a) then port_data (a % 4) io else if not (bit 0 a) then io.timer.value else flags_of io
+io_data a io = if not (bit 2 a) then port_data (a % 4) io else (if not (bit 0 a) then io.timer.value else flags_of io)
 
 -- what a read gives
 unfoldable pub data_of : ℕ → Riot → ℕ
@@ -65,8 +64,8 @@ data_of a v = if not (bit 7 a) then get_or v.ram (a % 128) 0 else io_data a v.io
 unfoldable pub io_read : ℕ → Io → Io
 io_read a io =
     if not (bit 2 a) then io else
-    if not (bit 0 a) then with_timer (flagged false (bit 3 a) io.timer) io else
-    with_pa7 (record { flag = false; enable = io.pa7.enable; rising = io.pa7.rising }) io
+    (if not (bit 0 a) then with_timer (flagged false (bit 3 a) io.timer) io else
+    with_pa7 (record { flag = false; enable = io.pa7.enable; rising = io.pa7.rising }) io)
 
 unfoldable pub read_of : ℕ → Riot → Riot
 read_of a v = if not (bit 7 a) then v else beside v.ram (io_read a v.io)

@@ -1,6 +1,5 @@
 -- What the code computes in place of single clocks. No promise of a public entry rests on it: proofs/ shows that the clocks lead there.
-use Rattle.std.specs.Prelude.{◌&&◌}
-use Rattle.clocks.specs.Clocks.{if◌then◌else◌}
+use Rattle.std.specs.Prelude.{◌&&◌, if◌then◌else◌}
 use Rattle.clocks.specs.Forecasts.{sooner_of}
 use Rattle.clocks.specs.declared.Forecast.{Forecast}
 use Rattle.clocks.specs.declared.Forecast.TheVariants.{Never, In}

@@ -1,11 +1,10 @@
 -- The flags and the interrupt line.
-use Rattle.std.specs.Prelude.{◌≡◌, Bool, true, false, ◌&&◌, ◌||◌, ◌⊎◌, ℕ, eqb}
-use Rattle.clocks.specs.Clocks.{if◌then◌else◌}
+use Rattle.std.specs.Prelude.{◌≡◌, Bool, true, false, ◌&&◌, ◌||◌, ◌⊎◌, ℕ, eqb, if◌then◌else◌}
 use Rattle.riot6532.specs.declared.Io.{Io}
 
 -- flag 7 is the timer's, flag 6 PA7's, and there is no other
 abbrev pub flag_at : ℕ → Io → Bool
-flag_at k io = if eqb k 7 then io.timer.flag else if eqb k 6 then io.pa7.flag else false
+flag_at k io = if eqb k 7 then io.timer.flag else (if eqb k 6 then io.pa7.flag else false)
 
 -- the line is asserted while a flag is set that is enabled
 abbrev pub irq_of : Io → Bool

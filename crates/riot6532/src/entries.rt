@@ -1,6 +1,5 @@
 // The chip's entries with the RAM lent beside the rest. An answer of these, made whole with the RAM, is the chip's answer to the call.
-ghost use Rattle.std.specs.Prelude.{◌≡◌, List, ℕ};
-ghost use Rattle.clocks.specs.Clocks.{if◌then◌else◌};
+ghost use Rattle.std.specs.Prelude.{◌≡◌, List, ℕ, if◌then◌else◌};
 ghost use Rattle.chips.specs.Chips.{answer, Foretold};
 ghost use Rattle.interval.specs.Timer.{well_timed};
 ghost use Rattle.riot6532.specs.Record.{beside};

@@ -1,4 +1,5 @@
 -- The answers to a file that is cut, though not all of a line is kept that goes on.
+use Rattle.std.specs.Prelude.{if◌then◌else◌}
 use mathlib.Core.Path.{◌≡◌, refl, ap, sym, ◌∙◌}
 use mathlib.Core.Bool.{Bool, true, false}
 use mathlib.Core.List.{List, [], ◌∷◌, ◌++◌, append_assoc}
@@ -8,7 +9,6 @@ use native.Mathlib.Omega.{arith}
 use lib.Dec.{eqb}
 use lib.ListN.{length, take, length-append}
 use lib.Seq.{take_all, length-take-le}
-use Rattle.clocks.specs.Clocks.{if◌then◌else◌}
 use Rattle.frames.specs.declared.Frame.{Frame}
 use Rattle.replies.specs.Replies.{render}
 use Rattle.frames.proofs.Lines.{long_unknown}

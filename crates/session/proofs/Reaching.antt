@@ -1,4 +1,5 @@
 -- Whatever lines come, each chip of the bench stays a reached one; and which number a reply has.
+use Rattle.std.specs.Prelude.{if◌then◌else◌}
 use mathlib.Core.Path.{◌≡◌, refl, sym, ap, ◌∙◌}
 use mathlib.Core.Bool.{Bool, true, false, true≢false}
 use mathlib.Core.List.{List, [], ◌∷◌}
@@ -6,7 +7,6 @@ use Prim.Native.Nat.{ℕ}
 use native.Mathlib.Omega.{arith}
 use lib.Dec.{eqb}
 use borrow.Author.Tests.{eqb-true}
-use Rattle.clocks.specs.Clocks.{if◌then◌else◌}
 use Rattle.frames.specs.Frames.{frame_of}
 use Rattle.frames.specs.Demands as Frames
 use Rattle.frames.specs.declared.Frame.{Frame}

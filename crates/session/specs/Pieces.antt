@@ -1,6 +1,5 @@
 -- A file that comes in pieces, through buffers of any size.
-use Rattle.std.specs.Prelude.{ℕ, ◌+◌, ◌-◌, ◌*◌, ◌<◌, ◌≤◌, ◌≡◌, Bool, true, false, List, [], ◌∷◌, ◌++◌, leb, length, take, drop}
-use Rattle.clocks.specs.Clocks.{if◌then◌else◌}
+use Rattle.std.specs.Prelude.{ℕ, ◌+◌, ◌-◌, ◌*◌, ◌<◌, ◌≤◌, ◌≡◌, Bool, true, false, List, [], ◌∷◌, ◌++◌, leb, length, take, drop, if◌then◌else◌}
 use Rattle.session.specs.Steps.{power_up}
 use Rattle.lines.specs.Lines.{ended, open_line, last_line}
 use Rattle.session.specs.Sessions.{next_of, says_of, next_all, says_all}

@@ -1,4 +1,5 @@
 -- Clocks that shift are a counter that passes zero once and then rests: n of them, and when the flag is set.
+use Rattle.std.specs.Prelude.{if◌then◌else◌}
 use mathlib.Core.Path.{◌≡◌, refl, sym, ap, ◌∙◌}
 use mathlib.Core.Bool.{Bool, true, false, not, ◌&&◌, ◌||◌, and-false, false≢true}
 use Prim.Native.Nat.{ℕ, zero, suc, ◌+◌, ◌-◌, ◌*◌, ◌/◌, ◌%◌, ◌<◌, ◌≤◌, zero-le}
@@ -6,7 +7,7 @@ use native.Mathlib.Decide.{dec_lt}
 use native.Mathlib.Omega.{arith}
 use lib.Dec.{eqb, lit≤}
 use borrow.Author.Tests.{eq-eqb, ne_eqb}
-use Rattle.clocks.specs.Clocks.{if◌then◌else◌, after, in_turn}
+use Rattle.clocks.specs.Clocks.{after, in_turn}
 use Rattle.clocks.specs.Forecasts.{comes}
 use Rattle.clocks.specs.declared.Forecast.TheVariants.{Never, In}
 use Rattle.clocks.proofs.Clocks.{after_still}

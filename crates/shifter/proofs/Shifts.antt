@@ -1,4 +1,5 @@
 -- Shifts on end: how many are left to come, and the byte bit by bit. What a shift takes enters bit 0, and climbs a place with each later one.
+use Rattle.std.specs.Prelude.{if◌then◌else◌}
 use mathlib.Core.Path.{◌≡◌, refl, sym, ap, ◌∙◌}
 use mathlib.Core.Bool.{Bool, true, ◌||◌}
 use Prim.Native.Nat.{ℕ, zero, suc, ◌+◌, ◌-◌, ◌*◌, ◌/◌, ◌%◌, ◌<◌, ◌≤◌}
@@ -6,7 +7,7 @@ use native.Mathlib.Nat.{add-zero, zero-add, add-suc}
 use native.Mathlib.Omega.{arith}
 use lib.Dec.{eqb}
 use borrow.Author.Tests.{eq-eqb, ne_eqb}
-use Rattle.clocks.specs.Clocks.{if◌then◌else◌, in_turn}
+use Rattle.clocks.specs.Clocks.{in_turn}
 use Rattle.clocks.specs.Bits.{bit}
 use Rattle.clocks.proofs.Clocks.{turns_keep}
 use Rattle.clocks.proofs.Bits.{bit_suc, bit_mod, bit_here, bit_other, with_lt}

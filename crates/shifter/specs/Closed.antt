@@ -1,6 +1,5 @@
 -- What the code computes in place of single clocks. No promise of a public function rests on it: proofs/ shows that the clocks lead there.
-use Rattle.std.specs.Prelude.{Bool, ℕ, ◌-◌, ◌*◌}
-use Rattle.clocks.specs.Clocks.{if◌then◌else◌}
+use Rattle.std.specs.Prelude.{Bool, ℕ, ◌-◌, ◌*◌, if◌then◌else◌}
 use Rattle.clocks.specs.declared.Forecast.{Forecast}
 use Rattle.clocks.specs.declared.Forecast.TheVariants.{Never, In}
 use Rattle.shifter.specs.Shifter.{counting}
@@ -16,4 +15,4 @@ clocks_of s = 2 * s.left - begun s.half
 
 -- when the flag is set
 abbrev pub due_of : Shifter → Forecast
-due_of s = if s.flag then In 0 else if counting s then In (clocks_of s) else Never
+due_of s = if s.flag then In 0 else (if counting s then In (clocks_of s) else Never)

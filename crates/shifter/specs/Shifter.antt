@@ -1,6 +1,6 @@
 -- The shift register: its modes, one shift, one clock, a pulse on CB1, and an access.
-use Rattle.std.specs.Prelude.{Bool, true, false, not, ◌&&◌, ◌||◌, ℕ, ◌-◌, ◌*◌, ◌%◌, eqb}
-use Rattle.clocks.specs.Clocks.{if◌then◌else◌, in_turn}
+use Rattle.std.specs.Prelude.{Bool, true, false, not, ◌&&◌, ◌||◌, ℕ, ◌-◌, ◌*◌, ◌%◌, eqb, if◌then◌else◌}
+use Rattle.clocks.specs.Clocks.{in_turn}
 use Rattle.clocks.specs.Bits.{bit, with_bit}
 use Rattle.shifter.specs.declared.Shifter.{Shifter}
 

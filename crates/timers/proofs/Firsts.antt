@@ -1,9 +1,9 @@
 -- T1 is a counter that passes zero, in both modes and whatever its mark: n of its clocks, and when its flag is set.
-use Rattle.std.proofs.Common.{◌≡◌, ℕ, suc, ◌+◌, ◌-◌, ◌/◌, ◌%◌, ◌<◌, ◌≤◌, Bool, true, false, ◌||◌, eqb, sym, refl, ap, ◌∙◌, mod-lt, arith, lit<, eq-eqb, ne_eqb, eqb-true}
+use Rattle.std.proofs.Common.{◌≡◌, ℕ, suc, ◌+◌, ◌-◌, ◌/◌, ◌%◌, ◌<◌, ◌≤◌, Bool, true, false, ◌||◌, eqb, sym, refl, ap, ◌∙◌, mod-lt, arith, lit<, eq-eqb, ne_eqb, eqb-true, if◌then◌else◌}
 use mathlib.Core.Bool.{false≢true}
 use native.Mathlib.Decide.{ℕ_discrete}
 use lib.Dec.{eqb-suc-zero}
-use Rattle.clocks.specs.Clocks.{if◌then◌else◌, after}
+use Rattle.clocks.specs.Clocks.{after}
 use Rattle.clocks.specs.Forecasts.{comes}
 use Rattle.clocks.specs.declared.Forecast.{Forecast}
 use Rattle.clocks.specs.declared.Forecast.TheVariants.{Never, In}
@@ -21,7 +21,7 @@ by_top t = go t.mark
   where
     go :
         (m : Bool)
-        → (if m then at t.latch t else if eqb t.counter 0 then passed t else at (t.counter - 1) t)
+        → (if m then at t.latch t else (if eqb t.counter 0 then passed t else at (t.counter - 1) t))
         ≡ (if eqb (if m then t.latch + 1 else t.counter) 0 then passed t else at ((if m then t.latch + 1 else t.counter) - 1) t)
     go true = rw (ne_eqb (t.latch + 1) 0 (omega arith)) (ap (λ (x : ℕ). at x t) (omega arith))
     go false = refl
@@ -110,7 +110,7 @@ flag_after_is t =
 
 -- when the flag is set
 abbrev pub due_of : T1 → Forecast
-due_of t = if t.flag then In 0 else if t.free || t.armed then In (top_of t + 1) else Never
+due_of t = if t.flag then In 0 else (if t.free || t.armed then In (top_of t + 1) else Never)
 
 pub flag_due : (t : T1) (k : ℕ) → (after k clocked t).flag ≡ comes (due_of t) k
 flag_due t k =

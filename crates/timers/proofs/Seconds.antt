@@ -1,8 +1,8 @@
 -- T2 is a counter that passes zero, where clocks count: n of its clocks, and when its flag is set.
-use Rattle.std.proofs.Common.{◌≡◌, ℕ, suc, ◌+◌, ◌-◌, ◌%◌, ◌<◌, ◌≤◌, Bool, true, false, not, ◌&&◌, ◌||◌, eqb, refl, ap, ◌∙◌, arith, lit<}
+use Rattle.std.proofs.Common.{◌≡◌, ℕ, suc, ◌+◌, ◌-◌, ◌%◌, ◌<◌, ◌≤◌, Bool, true, false, not, ◌&&◌, ◌||◌, eqb, refl, ap, ◌∙◌, arith, lit<, if◌then◌else◌}
 use mathlib.Core.Bool.{and-true, and-false}
 use lib.Dec.{eqb-suc-zero}
-use Rattle.clocks.specs.Clocks.{if◌then◌else◌, after}
+use Rattle.clocks.specs.Clocks.{after}
 use Rattle.clocks.specs.Forecasts.{comes}
 use Rattle.clocks.specs.declared.Forecast.{Forecast}
 use Rattle.clocks.specs.declared.Forecast.TheVariants.{Never, In}
@@ -62,7 +62,7 @@ module _ (t : T2) (p : t.pulse ≡ false) where
 
 -- when the flag is set, with PB6 still
 abbrev pub due_of : T2 → Forecast
-due_of t = if t.flag then In 0 else if t.armed && not t.pulse then In (t.counter + 1) else Never
+due_of t = if t.flag then In 0 else (if t.armed && not t.pulse then In (t.counter + 1) else Never)
 
 -- an armed timer's flag is set by clocks only where clocks count
 unmoved : (a : Bool) → (f : Forecast) → (if a && false then f else Never) ≡ Never

@@ -1,6 +1,6 @@
 -- What the code computes in place of single clocks. No promise of a public function rests on it: proofs/ shows that the clocks lead there.
-use Rattle.std.specs.Prelude.{ℕ, suc, ◌+◌, true, not, ◌&&◌, ◌||◌, ◌==◌}
-use Rattle.clocks.specs.Clocks.{if◌then◌else◌, after}
+use Rattle.std.specs.Prelude.{ℕ, suc, ◌+◌, true, not, ◌&&◌, ◌||◌, ◌==◌, if◌then◌else◌}
+use Rattle.clocks.specs.Clocks.{after}
 use Rattle.timers.specs.First.{at}
 use Rattle.timers.specs.declared.T1.{T1}
 

@@ -1,6 +1,5 @@
 -- T1, the first timer: which counter its mark goes with, and one clock of it.
-use Rattle.std.specs.Prelude.{ℕ, ◌-◌, Bool, true, false, not, ◌&&◌, ◌||◌, ◌==◌}
-use Rattle.clocks.specs.Clocks.{if◌then◌else◌}
+use Rattle.std.specs.Prelude.{ℕ, ◌-◌, Bool, true, false, not, ◌&&◌, ◌||◌, ◌==◌, if◌then◌else◌}
 use Rattle.timers.specs.declared.T1.{T1}
 
 -- a set mark goes with a counter of 65,535, a clear one with any
@@ -38,5 +37,5 @@ passed t =
 unfoldable pub clocked : T1 → T1
 clocked t =
     if t.mark then at t.latch t else
-    if t.counter == 0 then passed t else
-    at (t.counter - 1) t
+    (if t.counter == 0 then passed t else
+    at (t.counter - 1) t)

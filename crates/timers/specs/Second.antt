@@ -1,6 +1,6 @@
 -- T2, the second timer: one count and one clock of it.
-use Rattle.std.specs.Prelude.{Bool, not, ◌&&◌, ◌||◌, ◌==◌}
-use Rattle.clocks.specs.Clocks.{if◌then◌else◌, lower}
+use Rattle.std.specs.Prelude.{Bool, not, ◌&&◌, ◌||◌, ◌==◌, if◌then◌else◌}
+use Rattle.clocks.specs.Clocks.{lower}
 use Rattle.timers.specs.declared.T2.{T2}
 
 -- the counter goes round; only the wrap of an armed timer sets the flag, and no later one does

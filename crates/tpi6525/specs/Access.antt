@@ -1,6 +1,5 @@
 -- The eight registers: what is refused, what a read gives and leaves, and what a write leaves.
-use Rattle.std.specs.Prelude.{Bool, not, ◌&&◌, ℕ, eqb, ltb}
-use Rattle.clocks.specs.Clocks.{if◌then◌else◌}
+use Rattle.std.specs.Prelude.{Bool, not, ◌&&◌, ℕ, eqb, ltb, if◌then◌else◌}
 use Rattle.inputs.specs.Inputs.{interrupts, taken, ended, kept}
 use Rattle.inputs.specs.declared.Inputs.{Inputs}
 use Rattle.ports.specs.Ports.{lines_of}
@@ -18,13 +17,13 @@ register_asks r = if ltb 7 r then 3 else 0
 unfoldable pub data_of : ℕ → Tpi → ℕ
 data_of r v =
     if eqb r 0 then lines_of v.a else
-    if eqb r 1 then lines_of v.b else
-    if eqb r 2 then lines_c v else
-    if eqb r 3 then v.a.ddr else
-    if eqb r 4 then v.b.ddr else
-    if eqb r 5 then v.c.ddr else
-    if eqb r 6 then v.cr else
-    air_of v
+    (if eqb r 1 then lines_of v.b else
+    (if eqb r 2 then lines_c v else
+    (if eqb r 3 then v.a.ddr else
+    (if eqb r 4 then v.b.ddr else
+    (if eqb r 5 then v.c.ddr else
+    (if eqb r 6 then v.cr else
+    air_of v))))))
 
 -- a read of register 7 takes what it shows, and no other read has an effect
 abbrev pub takes : ℕ → Bool
@@ -43,8 +42,8 @@ ends r = eqb r 7
 unfoldable pub inputs_after : ℕ → ℕ → Tpi → Inputs
 inputs_after r x v =
     if eqb r 2 then kept v.cr x v.inputs else
-    if ends r then ended v.cr v.inputs else
-    v.inputs
+    (if ends r then ended v.cr v.inputs else
+    v.inputs)
 
 -- each other register keeps the byte, port C's output byte out of interrupt mode only; a write of CR or of port C's direction byte leaves the inputs
 unfoldable pub write_of : ℕ → ℕ → Tpi → Tpi

@@ -1,6 +1,5 @@
 -- The interrupt, and the lines of port C.
-use Rattle.std.specs.Prelude.{Bool, not, ℕ}
-use Rattle.clocks.specs.Clocks.{if◌then◌else◌}
+use Rattle.std.specs.Prelude.{Bool, not, ℕ, if◌then◌else◌}
 use Rattle.clocks.specs.Bits.{with_bit}
 use Rattle.inputs.specs.Inputs.{interrupts, shown, asserted}
 use Rattle.ports.specs.Ports.{lines_of}

@@ -1,8 +1,7 @@
 // The 6525: three ports, the third of them either a port like the others or five interrupt inputs. A call takes the record and hands it back inside its answer.
 #![tactic(auto)]
 
-ghost use Rattle.std.specs.Prelude.{◌≡◌};
-ghost use Rattle.clocks.specs.Clocks.{if◌then◌else◌};
+ghost use Rattle.std.specs.Prelude.{◌≡◌, if◌then◌else◌};
 ghost use Rattle.chips.specs.Chips.{answer};
 ghost use Rattle.tpi6525.specs.Record.{well_formed, power_up};
 ghost use Rattle.tpi6525.specs.Access.{register_asks};

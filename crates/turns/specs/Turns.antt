@@ -1,6 +1,5 @@
 -- A turn: what one read brings, what is held after it, and what is to be written for it.
-use Rattle.std.specs.Prelude.{◌≡◌, Bool, true, false, List, [], ◌∷◌, ◌++◌, ℕ, ◌+◌, ◌*◌, ◌≤◌, length, take, drop}
-use Rattle.clocks.specs.Clocks.{if◌then◌else◌}
+use Rattle.std.specs.Prelude.{◌≡◌, Bool, true, false, List, [], ◌∷◌, ◌++◌, ℕ, ◌+◌, ◌*◌, ◌≤◌, length, take, drop, if◌then◌else◌}
 use Rattle.lines.specs.Lines.{last_line}
 use Rattle.session.specs.Sessions.{says_all}
 use Rattle.session.specs.Pieces.{Held, at_start, held, wrote, Written}

@@ -1,10 +1,10 @@
 -- The lines of a written-out session are lines of its file, and so none has an LF in it.
+use Rattle.std.specs.Prelude.{if◌then◌else◌}
 use mathlib.Core.Path.{◌≡◌, ap, sym, ◌∙◌}
 use mathlib.Core.Bool.{Bool, true, false}
 use mathlib.Core.List.{List, [], ◌∷◌, ◌++◌, append-nil}
 use Prim.Native.Nat.{ℕ, zero, suc, ◌+◌, ◌-◌}
 use lib.Dec.{ltb}
-use Rattle.clocks.specs.Clocks.{if◌then◌else◌}
 use Rattle.lines.specs.Lines.{ended, open_line, last_line, lines_of, file_of, Quiet, Quiets}
 use Rattle.lines.proofs.Demands.{lines_quiet, one_way}
 use Rattle.marks.specs.Marks.{closes, turns_of}
@@ -45,8 +45,8 @@ blocks_quiet k (l ∷ ls) p =
         (a c : Bool) → All (blocks_of itself (k + 1) ls) → All (blocks_of itself (k - 1) ls) → All (blocks_of itself k ls)
         → All
         (if a then [] ∷ blocks_of itself (k + 1) ls else
-        if c then repeated (turns_of k l) (blocks_of itself (k - 1) ls) else
-        line_before l (blocks_of itself k ls))
+        (if c then repeated (turns_of k l) (blocks_of itself (k - 1) ls) else
+        line_before l (blocks_of itself k ls)))
     go true c x y z = (tt, x)
     go false true x y z =
         let o = of_others (blocks_of itself (k - 1) ls) y in (

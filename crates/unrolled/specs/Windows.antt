@@ -1,6 +1,5 @@
 -- What a session with repeats answers, and what comes of it window by window.
-use Rattle.std.specs.Prelude.{◌≡◌, Bool, not, List, [], ◌⊎◌, ℕ, ◌*◌, ◌<◌, ◌≤◌, ltb, length, take, drop}
-use Rattle.clocks.specs.Clocks.{if◌then◌else◌}
+use Rattle.std.specs.Prelude.{◌≡◌, Bool, not, List, [], ◌⊎◌, ℕ, ◌*◌, ◌<◌, ◌≤◌, ltb, length, take, drop, if◌then◌else◌}
 use Rattle.lines.specs.Lines.{lines_of}
 use Rattle.lines.specs.Places.{line_at, lines_at, cut_of}
 use Rattle.lines.specs.Written.{Written}

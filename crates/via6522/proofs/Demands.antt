@@ -1,10 +1,10 @@
 -- The statements of specs/Demands.antt, proved.
+use Rattle.std.specs.Prelude.{if◌then◌else◌}
 use mathlib.Core.Path.{◌≡◌, refl, ap, ◌∙◌}
 use mathlib.Core.Bool.{Bool, true, false, ◌&&◌}
 use Prim.Native.Nat.{ℕ, ◌<◌}
 use native.Mathlib.Omega.{arith}
 use lib.Dec.{eqb, lit<}
-use Rattle.clocks.specs.Clocks.{if◌then◌else◌}
 use Rattle.clocks.specs.Bits.{bit, with_bit, with_clear}
 use Rattle.clocks.proofs.Bits.{bit_with, bit_clear}
 use Rattle.calls.specs.declared.Call22.TheVariants.{Write, Read, Run}
@@ -87,7 +87,7 @@ unfolding shown_b
 shown_by_bit_b v k h l =
     let kept = bit 1 v.acr && bit 4 v.ifr in
     lines_by_bit_b v (if kept then v.kept_b else v.b.outside) k h l
-    ∙ ap (λ (q : Bool). if bit 7 v.acr && eqb k 7 then v.t1.level else if bit k v.b.ddr then bit k v.b.output else q)
+    ∙ ap (λ (q : Bool). if bit 7 v.acr && eqb k 7 then v.t1.level else (if bit k v.b.ddr then bit k v.b.output else q))
     (bit_picked k kept v.kept_b v.b.outside)
 
 pub t1_period : Demands.T1Period

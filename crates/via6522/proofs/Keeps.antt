@@ -1,11 +1,11 @@
 -- What calls keep of a record: that it is well formed, and the ranges that the types of its timers give.
+use Rattle.std.specs.Prelude.{if◌then◌else◌}
 use mathlib.Core.Path.{◌≡◌, refl}
 use mathlib.Core.Bool.{Bool, true, false, not, ◌&&◌, ◌||◌, false≢true}
 use Prim.Native.Nat.{ℕ, suc, ◌+◌, ◌*◌, ◌/◌, ◌%◌, ◌<◌, ◌≤◌}
 use native.Mathlib.Omega.{arith}
 use lib.Dec.{eqb, ltb, lit<}
 use borrow.Author.Tests.{ltb-false, not-false}
-use Rattle.clocks.specs.Clocks.{if◌then◌else◌}
 use Rattle.clocks.proofs.Clocks.{after_keeps}
 use Rattle.clocks.proofs.Bits.{with_lt}
 use Rattle.clocks.proofs.Tests.{neither, picked}

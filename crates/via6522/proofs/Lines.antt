@@ -1,10 +1,11 @@
 -- When the interrupt line is asserted: by the flag of a timer or of the shift register, or by one that no clock moves.
+use Rattle.std.specs.Prelude.{if◌then◌else◌}
 use mathlib.Core.Path.{◌≡◌, sym, ap, ap₂, ◌∙◌}
 use mathlib.Core.Bool.{Bool, false, ◌&&◌, ◌||◌}
 use Prim.Native.Nat.{ℕ}
 use native.Mathlib.Omega.{arith}
 use lib.Dec.{leb-zero, lit<}
-use Rattle.clocks.specs.Clocks.{if◌then◌else◌, after}
+use Rattle.clocks.specs.Clocks.{after}
 use Rattle.clocks.specs.Bits.{bit, with_bit, shares}
 use Rattle.clocks.specs.Forecasts.{comes, sooner_of}
 use Rattle.clocks.specs.declared.Forecast.{Forecast}

@@ -1,4 +1,5 @@
 -- What the 6522 shows of its interrupt line: what it means, when it is asserted, and how far ahead that can be.
+use Rattle.std.specs.Prelude.{if◌then◌else◌}
 use mathlib.Core.Path.{◌≡◌, refl, sym, ◌∙◌}
 use mathlib.Core.Bool.{true, false≢true}
 use mathlib.Core.Logic.{◌↔◌}
@@ -6,7 +7,7 @@ use Prim.Native.Nat.{ℕ, zero-le, ◌<◌, ◌≤◌}
 use native.Mathlib.Decide.{dec_lt}
 use native.Mathlib.Omega.{arith}
 use lib.Dec.{lit<, lit≤}
-use Rattle.clocks.specs.Clocks.{if◌then◌else◌, after}
+use Rattle.clocks.specs.Clocks.{after}
 use Rattle.clocks.specs.Bits.{bit, with_bit, with_set, with_clear, shares}
 use Rattle.clocks.specs.Forecasts.{comes, sooner_of}
 use Rattle.clocks.specs.declared.Forecast.{Forecast}

@@ -1,6 +1,5 @@
 -- The sixteen registers: what is refused, what a read gives and leaves, and what a write stores. Flags are cleared by the rules of `flags`.
-use Rattle.std.specs.Prelude.{true, false, not, ◌&&◌, ◌||◌, ℕ, ◌+◌, ◌*◌, ◌/◌, ◌%◌, eqb, ltb}
-use Rattle.clocks.specs.Clocks.{if◌then◌else◌}
+use Rattle.std.specs.Prelude.{true, false, not, ◌&&◌, ◌||◌, ℕ, ◌+◌, ◌*◌, ◌/◌, ◌%◌, eqb, ltb, if◌then◌else◌}
 use Rattle.clocks.specs.Bits.{with_bit}
 use Rattle.flags.specs.Flags.{allowed_pcr, read_clears, write_clears, shown, enabled}
 use Rattle.shifter.specs.Shifter.{accessed}
@@ -29,21 +28,21 @@ read_asks r = if ltb 15 r then 3 else 0
 unfoldable pub data_of : ℕ → Via → ℕ
 data_of r v =
     if eqb r 0 then shown_b v else
-    if eqb r 1 then shown_a v else
-    if eqb r 2 then v.b.ddr else
-    if eqb r 3 then v.a.ddr else
-    if eqb r 4 then v.t1.counter % 256 else
-    if eqb r 5 then v.t1.counter / 256 else
-    if eqb r 6 then v.t1.latch % 256 else
-    if eqb r 7 then v.t1.latch / 256 else
-    if eqb r 8 then v.t2.counter % 256 else
-    if eqb r 9 then v.t2.counter / 256 else
-    if eqb r 10 then v.sr.byte else
-    if eqb r 11 then v.acr else
-    if eqb r 12 then v.pcr else
-    if eqb r 13 then shown v.ifr v.ier else
-    if eqb r 14 then with_bit 7 true v.ier else
-    shown_a v
+    (if eqb r 1 then shown_a v else
+    (if eqb r 2 then v.b.ddr else
+    (if eqb r 3 then v.a.ddr else
+    (if eqb r 4 then v.t1.counter % 256 else
+    (if eqb r 5 then v.t1.counter / 256 else
+    (if eqb r 6 then v.t1.latch % 256 else
+    (if eqb r 7 then v.t1.latch / 256 else
+    (if eqb r 8 then v.t2.counter % 256 else
+    (if eqb r 9 then v.t2.counter / 256 else
+    (if eqb r 10 then v.sr.byte else
+    (if eqb r 11 then v.acr else
+    (if eqb r 12 then v.pcr else
+    (if eqb r 13 then shown v.ifr v.ier else
+    (if eqb r 14 then with_bit 7 true v.ier else
+    shown_a v))))))))))))))
 
 -- a read of SR is an access to the shift register
 unfoldable pub read_of : ℕ → Via → Via
@@ -55,8 +54,8 @@ read_of r v = with_sr (if eqb r 10 then restarted v else v.sr) (cleared (read_cl
 unfoldable pub write_asks : ℕ → ℕ → ℕ
 write_asks r x =
     if ltb 15 r then 3 else
-    if eqb r 11 && not (allowed_acr x) || eqb r 12 && not (allowed_pcr x) then 4 else
-    0
+    (if eqb r 11 && not (allowed_acr x) || eqb r 12 && not (allowed_pcr x) then 4 else
+    0)
 
 -- T1's latch with another low or high half
 abbrev pub low_half : ℕ → ℕ → ℕ
@@ -89,8 +88,8 @@ stored r x v =
             counter = if eqb r 5 then high_half x v.t1.latch else v.t1.counter;
             latch =
                 if eqb r 4 || eqb r 6 then low_half x v.t1.latch else
-                if eqb r 5 || eqb r 7 then high_half x v.t1.latch else
-                v.t1.latch;
+                (if eqb r 5 || eqb r 7 then high_half x v.t1.latch else
+                v.t1.latch);
             armed = if eqb r 5 then true else v.t1.armed;
             mark = if eqb r 5 then false else v.t1.mark;
             level = if eqb r 5 then false else v.t1.level;
@@ -104,8 +103,8 @@ stored r x v =
       sr =
           record {
             byte = if eqb r 10 then x else v.sr.byte;
-            left = if eqb r 10 then (restarted v).left else if eqb r 11 then 0 else v.sr.left;
-            half = if eqb r 10 then (restarted v).half else if eqb r 11 then false else v.sr.half;
+            left = if eqb r 10 then (restarted v).left else (if eqb r 11 then 0 else v.sr.left);
+            half = if eqb r 10 then (restarted v).half else (if eqb r 11 then false else v.sr.half);
             output = v.sr.output;
           };
       acr = if eqb r 11 then x else v.acr;

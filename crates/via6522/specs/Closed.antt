@@ -1,6 +1,5 @@
 -- What the code computes in place of looking ahead. No promise of a public entry rests on it: proofs/ shows that the clocks lead there.
-use Rattle.std.specs.Prelude.{Bool, false}
-use Rattle.clocks.specs.Clocks.{if◌then◌else◌}
+use Rattle.std.specs.Prelude.{Bool, false, if◌then◌else◌}
 use Rattle.clocks.specs.Bits.{bit, with_bit}
 use Rattle.clocks.specs.Forecasts.{sooner_of}
 use Rattle.clocks.specs.declared.Forecast.{Forecast}

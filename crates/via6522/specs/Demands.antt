@@ -1,6 +1,6 @@
 -- What the three demands and the requests ask of the 6522 beyond the promise of each entry. proofs/Demands.antt has a proof of each statement, under its name in small letters.
-use Rattle.std.specs.Prelude.{◌≡◌, Bool, true, false, not, ◌&&◌, ◌||◌, ℕ, suc, ◌+◌, ◌-◌, ◌%◌, ◌<◌, ◌≤◌, eqb, leb}
-use Rattle.clocks.specs.Clocks.{if◌then◌else◌, after, in_turn}
+use Rattle.std.specs.Prelude.{◌≡◌, Bool, true, false, not, ◌&&◌, ◌||◌, ℕ, suc, ◌+◌, ◌-◌, ◌%◌, ◌<◌, ◌≤◌, eqb, leb, if◌then◌else◌}
+use Rattle.clocks.specs.Clocks.{after, in_turn}
 use Rattle.clocks.specs.Bits.{bit, with_bit}
 use Rattle.calls.specs.declared.Call22.{Call22}
 use Rattle.calls.specs.declared.Call22.TheVariants.{Write, Read, Pins, Run}
@@ -46,7 +46,7 @@ abbrev pub LinesByBitB : Type 0
 LinesByBitB =
     (v : Via) (outside k : ℕ) → k < 8 → v.b.ddr < 256
     → bit k (lines_b outside v)
-    ≡ (if bit 7 v.acr && eqb k 7 then v.t1.level else if bit k v.b.ddr then bit k v.b.output else bit k outside)
+    ≡ (if bit 7 v.acr && eqb k 7 then v.t1.level else (if bit k v.b.ddr then bit k v.b.output else bit k outside))
 
 -- what a read of port A shows, bit by bit: the kept lines while ACR bit 0 and IFR1 are set, else the lines
 abbrev pub ShownByBitA : Type 0
@@ -54,7 +54,7 @@ ShownByBitA =
     (v : Via) (k : ℕ) → k < 8 → v.a.ddr < 256
     → bit k (shown_a v)
     ≡ (if bit 0 v.acr && bit 1 v.ifr then bit k v.kept_a
-    else if bit k v.a.ddr then bit k v.a.output else bit k v.a.outside)
+    else (if bit k v.a.ddr then bit k v.a.output else bit k v.a.outside))
 
 -- and of port B: a kept line, while ACR bit 1 and IFR4 are set, only where DDRB is 0 and T1 does not drive PB7
 abbrev pub ShownByBitB : Type 0
@@ -62,8 +62,8 @@ ShownByBitB =
     (v : Via) (k : ℕ) → k < 8 → v.b.ddr < 256
     → bit k (shown_b v)
     ≡ (if bit 7 v.acr && eqb k 7 then v.t1.level
-    else if bit k v.b.ddr then bit k v.b.output
-    else if bit 1 v.acr && bit 4 v.ifr then bit k v.kept_b else bit k v.b.outside)
+    else (if bit k v.b.ddr then bit k v.b.output
+    else (if bit 1 v.acr && bit 4 v.ifr then bit k v.kept_b else bit k v.b.outside)))
 
 -- request 02: T1's passings of zero are latch + 2 clocks apart; neither the mode nor the arming matters. Counted from a passing,
 -- the mark is set at each multiple of latch + 2 and at no other clock; between two of them the counter falls from the latch to 0

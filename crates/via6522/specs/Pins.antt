@@ -1,6 +1,5 @@
 -- New levels outside: pulses on PB6 and on CB1, edges on the control lines, and kept port lines. Every edge is from the levels before the call.
-use Rattle.std.specs.Prelude.{true, false, ℕ, ltb}
-use Rattle.clocks.specs.Clocks.{if◌then◌else◌}
+use Rattle.std.specs.Prelude.{true, false, ℕ, ltb, if◌then◌else◌}
 use Rattle.clocks.specs.Bits.{bit, with_bit}
 use Rattle.ports.specs.Ports.{edge, lines_for, under}
 use Rattle.flags.specs.Flags.{raised, keeps_a, keeps_b}

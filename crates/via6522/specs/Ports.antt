@@ -1,6 +1,5 @@
 -- The lines of port B, and the byte that a read of a port gives. The lines of port A are `lines_of` of the port.
-use Rattle.std.specs.Prelude.{◌&&◌, ℕ}
-use Rattle.clocks.specs.Clocks.{if◌then◌else◌}
+use Rattle.std.specs.Prelude.{◌&&◌, ℕ, if◌then◌else◌}
 use Rattle.clocks.specs.Bits.{bit, with_bit}
 use Rattle.ports.specs.Ports.{lines_for, lines_of}
 use Rattle.via6522.specs.declared.Via.{Via}

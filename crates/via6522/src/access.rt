@@ -1,6 +1,5 @@
 // The sixteen registers: which accesses are refused, the byte of each, and what a read and a write leave.
-ghost use Rattle.std.specs.Prelude.{◌≡◌, eqb};
-ghost use Rattle.clocks.specs.Clocks.{if◌then◌else◌};
+ghost use Rattle.std.specs.Prelude.{◌≡◌, eqb, if◌then◌else◌};
 ghost use Rattle.via6522.specs.Record.{allowed_acr};
 ghost use Rattle.via6522.specs.Access.{restarted as restartedOf, written, data_of, stored as storedOf, read_asks, write_asks};
 

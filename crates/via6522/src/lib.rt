@@ -2,8 +2,7 @@
 // A call takes the record and hands it back inside its answer.
 #![tactic(auto)]
 
-ghost use Rattle.std.specs.Prelude.{◌≡◌};
-ghost use Rattle.clocks.specs.Clocks.{if◌then◌else◌};
+ghost use Rattle.std.specs.Prelude.{◌≡◌, if◌then◌else◌};
 ghost use Rattle.calls.specs.declared.Call22.{Call22};
 ghost use Rattle.chips.specs.Chips.{answer, Foretold};
 ghost use Rattle.via6522.specs.Record.{power_up, well_formed};

@@ -1,7 +1,7 @@
+use Rattle.std.specs.Prelude.{if◌then◌else◌}
 use Prim.Native.Nat.{ℕ}
 use mathlib.Core.Bool.{false}
 use mathlib.Core.Path.{◌∙◌, ap, sym}
-use Rattle.clocks.specs.Clocks.{if◌then◌else◌}
 use Rattle.crtc6545.specs.Record.{well_formed}
 use Rattle.crtc6545.specs.Access.{undriven_of, read_of}
 use Rattle.crtc6545.specs.Chip.{accepted}

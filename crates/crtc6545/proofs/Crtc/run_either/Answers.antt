@@ -1,6 +1,6 @@
+use Rattle.std.specs.Prelude.{if◌then◌else◌}
 use Prim.Native.Nat.{ℕ}
 use mathlib.Core.Path.{◌∙◌, ap, sym}
-use Rattle.clocks.specs.Clocks.{if◌then◌else◌}
 use Rattle.chips.proofs.Chips.{accepts, refuses}
 use Rattle.calls.specs.declared.Call45.TheVariants.{Run}
 use Rattle.crtc6545.specs.Record.{well_formed}

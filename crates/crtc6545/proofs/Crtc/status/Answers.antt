@@ -1,7 +1,7 @@
+use Rattle.std.specs.Prelude.{if◌then◌else◌}
 use Prim.Native.Nat.{◌+◌, ◌<◌}
 use lib.Dec.{lit<}
 use mathlib.Core.Bool.{Bool, true, false}
-use Rattle.clocks.specs.Clocks.{if◌then◌else◌}
 use Rattle.crtc6545.specs.Access.{status_of}
 use Rattle.crtc6545.proofs.Crtc.status.Goals as goal
 

@@ -1,5 +1,5 @@
+use Rattle.std.specs.Prelude.{if◌then◌else◌}
 use Prim.Native.Nat.{ℕ}
-use Rattle.clocks.specs.Clocks.{if◌then◌else◌}
 use mathlib.Core.Path.{◌∙◌, sym, ap}
 use Rattle.chips.proofs.Chips.{accepts, refuses}
 use Rattle.calls.specs.declared.Call22.TheVariants.{Pins}
