@@ -1,5 +1,5 @@
 -- The words that every chip's rules are written with: if, after n clocks, and one less.
-use Rattle.std.specs.Prelude.{Bool, cond, ℕ, zero, suc, ◌-◌, eqb}
+use Rattle.std.specs.Prelude.{if◌then◌else◌, ℕ, zero, suc, ◌-◌, eqb}
 
 -- what n turns of the rule f leave of x
 unfoldable pub after : {A : Type 0} → ℕ → (A → A) → A → A
