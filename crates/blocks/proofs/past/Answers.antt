@@ -38,5 +38,11 @@ loop-here-preserved c =
     let loop = tested in
     passing_line loop.loop-here.invariant loop.loop-here-test.true (sym tested.closes_at.ensures ∙ turned.if-closes_at.false) (rw (← turned.turns_at.ensures) c.if-turns_at-lt65536.false)
 
+pub overflow_add-depth : goal.overflow_add-depth
+overflow_add-depth c =
+    let opened = passing_open c.loop-here.invariant c.loop-here-test.true (sym c.closes_at.ensures ∙ c.if-closes_at.false) (rw (← c.turns_at.ensures) c.if-turns_at-lt65536.true) in
+    let level = opened.level in
+    search rules
+
 pub returns : goal.returns
 returns c = passing_end c.loop-here.invariant c.loop-here-test.false
