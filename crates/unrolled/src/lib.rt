@@ -1,5 +1,6 @@
 // A session with repeats on the bench: it is judged as a whole, and its lines are played window by window.
 #![tactic(auto)]
+
 ghost use Rattle.unrolled.specs.Windows.{Begins, Goes};
 
 use session::{Bench, Played};

@@ -1,0 +1,24 @@
+use mathlib.Core.Path.{sym}
+use mathlib.Core.Logic.{inl, inr}
+use borrow.Author.Rules.{rules}
+use lib.Seq.{length-take-le}
+use Rattle.unrolled.proofs.Windows.{written_within, too_small, begins_refused, begins_accepted}
+use Rattle.unrolled.proofs.begin.Goals as goal
+
+pub returns-then-table-lt32768 : goal.returns-then-table-lt32768
+returns-then-table-lt32768 c = too_small _ _ _ (inl c.if-table-lt32768.true)
+
+pub returns-then-out-lt13 : goal.returns-then-out-lt13
+returns-then-out-lt13 c = too_small _ _ _ (inr c.if-out-lt13.true)
+
+pub slice_bounds-refusal-end : goal.slice_bounds-refusal-end
+slice_bounds-refusal-end c = written_within c.cut-lines.ensures
+
+pub slice_bounds-refusal-end-2 : goal.slice_bounds-refusal-end-2
+slice_bounds-refusal-end-2 c = sym (length-take-le _ _ (written_within c.cut-lines.ensures))
+
+pub returns-then-code-gt0 : goal.returns-then-code-gt0
+returns-then-code-gt0 c =     let put = c in     let judged = put in     let cut = judged in     let room = cut in     begins_refused _ _ _ room.if-table-lt32768.false room.if-out-lt13.false cut.cut-lines.ensures judged.refusal-code.ensures _ _ put.if-code-gt0.true put.put_refusal-made.ensures
+
+pub returns : goal.returns
+returns c =     let judged = c in     let cut = judged in     let room = cut in     begins_accepted _ _ _ room.if-table-lt32768.false room.if-out-lt13.false cut.cut-lines.ensures judged.refusal-code.ensures c.if-code-gt0.false
