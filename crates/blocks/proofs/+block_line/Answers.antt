@@ -1,4 +1,4 @@
-use Rattle.std.proofs.Common.{ℕ, ◌<◌, ◌≤◌, ◌+◌, ◌-◌, ◌*◌, sym, ◌∙◌, length, arith, rules}
+use Rattle.std.proofs.Common.{sym, ◌∙◌, arith}
 use Rattle.blocks.proofs.Windows.{one}
 use Rattle.blocks.proofs.Blocks.{opens_level}
 use Rattle.blocks.proofs.Walks.{block_goes, block_stops, blocking_close, blocking_end, blocking_line}

@@ -1,11 +1,11 @@
 use mathlib.Core.Path.{sym, ap, ◌∙◌}
-use Prim.Native.Nat.{◌-◌, ◌≤◌}
+use Prim.Native.Nat.{◌-◌}
 use borrow.Author.Rules.{rules}
 use native.Mathlib.Omega.{arith}
 use lib.ListN.{drop, length-take}
 use Rattle.blocks.specs.Windows.{window, notes}
 use Rattle.blocks.proofs.Windows.{none, times_none}
-use Rattle.blocks.proofs.Copies.{last, Repeating, repeating_start, repeating_one, repeating_full, repeating_end}
+use Rattle.blocks.proofs.Copies.{last, repeating_start, repeating_one, repeating_full, repeating_end}
 use Rattle.blocks.proofs.again.Goals as goal
 
 pub returns-then-size-eq0 : goal.returns-then-size-eq0

@@ -1,7 +1,5 @@
-use Prim.Native.Nat.{◌-◌}
 use native.Mathlib.Omega.{arith}
-use borrow.Author.Rules.{rules}
-use Rattle.blocks.proofs.Copies.{Copying, copying_start, copying_one, copying_full, copying_end}
+use Rattle.blocks.proofs.Copies.{copying_start, copying_one, copying_full, copying_end}
 use Rattle.blocks.proofs.copied.Goals as goal
 
 pub loop-i-init : goal.loop-i-init

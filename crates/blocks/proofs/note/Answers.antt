@@ -1,5 +1,4 @@
 use mathlib.Core.Path.{refl, sym}
-use borrow.Author.Rules.{rules}
 use Rattle.blocks.proofs.Windows.{passed, put_last, too_late}
 use Rattle.blocks.proofs.note.Goals as goal
 

@@ -1,9 +1,7 @@
-use mathlib.Core.Path.{sym, ◌∙◌}
 use Prim.Native.Nat.{◌-◌}
-use borrow.Author.Rules.{rules}
 use lib.ListN.{length}
 use Rattle.lines.specs.Places.{line_at}
-use Rattle.blocks.proofs.Blocks.{Passing, passing_start, passing_close, passing_shut, passing_open, passing_line, passing_end}
+use Rattle.blocks.proofs.Blocks.{Passing}
 use Rattle.blocks.proofs.past.Given as goal
 
 abbrev pub invariant-loop-here : goal.invariant-loop-here

@@ -1,6 +1,5 @@
 use mathlib.Core.Path.{sym}
 use mathlib.Core.Logic.{inl, inr}
-use borrow.Author.Rules.{rules}
 use lib.Seq.{length-take-le}
 use Rattle.unrolled.proofs.Windows.{written_within, too_small, begins_refused, begins_accepted}
 use Rattle.unrolled.proofs.begin.Goals as goal
@@ -18,7 +17,7 @@ pub slice_bounds-refusal-end-2 : goal.slice_bounds-refusal-end-2
 slice_bounds-refusal-end-2 c = sym (length-take-le _ _ (written_within c.cut-lines.ensures))
 
 pub returns-then-code-gt0 : goal.returns-then-code-gt0
-returns-then-code-gt0 c =     let put = c in     let judged = put in     let cut = judged in     let room = cut in     begins_refused _ _ _ room.if-table-lt32768.false room.if-out-lt13.false cut.cut-lines.ensures judged.refusal-code.ensures _ _ put.if-code-gt0.true put.put_refusal-made.ensures
+returns-then-code-gt0 c = let put = c in let judged = put in let cut = judged in let room = cut in begins_refused _ _ _ room.if-table-lt32768.false room.if-out-lt13.false cut.cut-lines.ensures judged.refusal-code.ensures _ _ put.if-code-gt0.true put.put_refusal-made.ensures
 
 pub returns : goal.returns
-returns c =     let judged = c in     let cut = judged in     let room = cut in     begins_accepted _ _ _ room.if-table-lt32768.false room.if-out-lt13.false cut.cut-lines.ensures judged.refusal-code.ensures c.if-code-gt0.false
+returns c = let judged = c in let cut = judged in let room = cut in begins_accepted _ _ _ room.if-table-lt32768.false room.if-out-lt13.false cut.cut-lines.ensures judged.refusal-code.ensures c.if-code-gt0.false

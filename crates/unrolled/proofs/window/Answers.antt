@@ -1,5 +1,4 @@
 use mathlib.Core.Path.{sym}
-use borrow.Author.Rules.{rules}
 use lib.Seq.{length-take-le}
 use Rattle.unrolled.proofs.Windows.{written_within, goes_short, goes}
 use Rattle.unrolled.proofs.window.Goals as goal
@@ -14,4 +13,4 @@ pub slice_bounds-play-end-2 : goal.slice_bounds-play-end-2
 slice_bounds-play-end-2 c = sym (length-take-le _ _ (written_within c.window-lines.ensures))
 
 pub returns : goal.returns
-returns c =     let played = c in     let noted = played in     goes _ _ _ _ _ _ played.play-played.result noted.if-out-places.false noted.window-lines.ensures played.play-played.ensures
+returns c = let played = c in let noted = played in goes _ _ _ _ _ _ played.play-played.result noted.if-out-places.false noted.window-lines.ensures played.play-played.ensures
