@@ -1,5 +1,6 @@
 // The 6522's timer pair in its owner's memory: a call borrows it, decides everything on a copy, and stores what is left.
 #![tactic(auto)]
+
 ghost use Rattle.std.specs.Prelude.{◌≡◌};
 ghost use Rattle.clocks.specs.Clocks.{after};
 ghost use Rattle.timers.specs.Pair.{well_formed, clocked as clockedPair};
@@ -33,8 +34,7 @@ fn ran(p: Timers, n: u32) -> Timers
 }
 
 // One clock.
-#[unsafe(no_mangle)]
-pub extern "C" fn clock_pair(p: &mut Timers) -> u8
+pub fn clock_pair(p: &mut Timers) -> u8
     ensures { outcome result p.new ≡ clock_pair p.old }
 {
     let old = *p;
@@ -43,8 +43,7 @@ pub extern "C" fn clock_pair(p: &mut Timers) -> u8
 }
 
 // n clocks, in a number of steps that does not grow with n.
-#[unsafe(no_mangle)]
-pub extern "C" fn run_pair(p: &mut Timers, n: u32) -> u8
+pub fn run_pair(p: &mut Timers, n: u32) -> u8
     ensures { outcome result p.new ≡ run_pair n p.old }
 {
     let old = *p;
