@@ -1,6 +1,7 @@
 /*
  * The 6522's two timers in a host program's own memory. The functions below are proved: crates/lent says what each leaves of
- * the pair. `rt staticlib lent` proves them and writes target/staticlib/liblent.a, for x86-64 Linux, to link.
+ * the pair, and crates/lent_c promises it of these. `rt lib` in crates/lent_c proves them and writes out/liblent_c.a there, for
+ * x86-64 Linux (x86-64-v2), to link; tests/lent does so too, and puts it at target/staticlib/liblent.a.
  *
  * The caller answers for what a pointer is: it is not NULL, it is even, it points to a whole pair that may be written, and no
  * other thread reads or writes the pair during the call. And for each bool: it is 0 or 1, as C stores one. Any such pair may
