@@ -1,8 +1,9 @@
 # shellcheck shell=sh disable=SC2154
-# What the scripts in bin/ share: to prove and link a program of these sources if target/ has none, and to run it.
+# What the scripts in bin/ share: to prove and link a program of these sources if there is none of them as they stand,
+# and to run it.
 #
 # A script sets these and then sources this file:
-#   name    the program's name, in crates.txt and in target/bin
+#   name    the program's name, in crates.txt and below crates/
 #   usage   what -h says
 #   takes   what it takes besides options: the word for its input, which is standard input or one file; or the
 #           number of files whose names the program is given
@@ -17,17 +18,15 @@ refuse() { # TEXT: what stands in the way, in one line
 }
 
 root=$(dirname "$(dirname "$(readlink -f -- "$0")")")
-program=$root/target/bin/$name
+program=$root/crates/$name/out/$name
 notes=$root/target/run     # what the scripts keep: a lock, and of each program the two files below
 log=$notes/$name.log       # what its last check said
 passed=$notes/$name.passed # the sources and the program that its last check has passed
 
-# Finds the kit, by RATTLE_HOME or by where the rt on the path really stands.
-find_kit() {
+# Finds the kit's rt, on the path or by RATTLE_HOME.
+find_rt() {
     rt=$(command -v rt) || rt=${RATTLE_HOME:-}/bin/rt
-    [ -x "$rt" ] || return 1
-    kit=${RATTLE_HOME:-$(dirname "$(dirname "$(readlink -f -- "$rt")")")}
-    tools=$kit/on/$(uname -m)/toolchain
+    [ -x "$rt" ]
 }
 
 # The program's crate, the crates that its line in crates.txt names, those that theirs name, and so on. Some are
@@ -35,7 +34,7 @@ find_kit() {
 own_crates() {
     awk -v name="$name" '
         { sub(/#.*/, "") }
-        split($0, line, ":") == 2 { gsub(/[ \t]/, "", line[1]); needs[line[1]] = line[2] }
+        split($0, line, ":") == 2 { split(line[1], words, " "); needs[words[1]] = line[2] }
         END {
             crates[count = 1] = name
             seen[name]
@@ -51,8 +50,8 @@ own_crates() {
         }' crates.txt
 }
 
-# Names the program's sources by their bytes. Their times would not do: a file that is edited while a check runs
-# is older than the program and not in it.
+# Names the program's sources by their bytes, without what rt makes of them. Their times would not do: a file that is
+# edited while a check runs is older than the program and not in it.
 sources() {
     (
         cd "$root" || exit
@@ -60,22 +59,27 @@ sources() {
         for crate in $(own_crates); do
             [ ! -d "crates/$crate" ] || set -- "$@" "crates/$crate"
         done
-        find "$@" -type f -exec sha256sum {} +
+        find "$@" -regex 'crates/[^/]*/out' -prune -o -type f -exec sha256sum {} +
     ) | LC_ALL=C sort | sha256sum
 }
 
-# Whether a check has passed the program that stands in target/, made of the sources as they stand.
+# Whether a check has passed the program that stands in its crate's out/, made of the sources as they stand.
 is_current() {
     [ -x "$program" ] && [ -f "$passed" ] &&
         [ "$(sources && sha256sum <"$program")" = "$(cat "$passed")" ]
 }
 
-# Proves and links the program, again if the sources have changed meanwhile.
+# Proves and links the program, again if the sources have changed meanwhile. rt runs what it has linked, here on
+# nothing: a program that takes files gets as many empty ones. It has to end well on that.
 prove_and_link() {
     printf '%s: proving and linking the program; from nothing this takes some minutes\n' "$name" >&2
+    set --
+    case $takes in
+    [0-9]*) while [ $# -lt "$takes" ]; do set -- "$@" /dev/null; done ;;
+    esac
     until
         before=$(sources)
-        (cd "$root" && "$rt" check "$name") >"$log" 2>&1 </dev/null || return 1
+        (cd "$root/crates/$name" && "$rt" run -- "$@") >"$log" 2>&1 </dev/null || return 1
         [ "$(sources)" = "$before" ]
     do :; done
     { printf '%s\n' "$before" && sha256sum <"$program"; } >"$passed"
@@ -83,7 +87,7 @@ prove_and_link() {
 
 # One build at a time, of whatever program: who comes second waits, and may then find the program there.
 build() {
-    find_kit || refuse 'the program has to be proved and linked, and there is no Rattle kit: put its rt on the path or set RATTLE_HOME'
+    find_rt || refuse 'the program has to be proved and linked, and there is no Rattle kit: put its rt on the path or set RATTLE_HOME'
     command -v flock >/dev/null || refuse 'the program has to be proved and linked, and flock is missing (it comes with util-linux)'
     mkdir -p "$notes" 2>/dev/null
     { [ -d "$notes" ] && [ -w "$notes" ]; } || refuse "cannot write to $notes"
@@ -91,22 +95,15 @@ build() {
         refuse "the program was not proved and linked; $log says why"
 }
 
-# Runs the program. Its answers go straight on. What it complains of is caught, because its own status
-# is 0 whatever happens. It is made for x86-64; elsewhere the kit's emulator and C library run it.
+# Runs the program. Its answers go straight on. What it complains of is caught, for it may complain and end with 0;
+# where it ends with another status, an error that it said is enough, and else the status is told.
 run() { # WORD..: the program's arguments
-    set -- "$program" "$@"
-    if [ "$(uname -m)" != x86_64 ]; then
-        find_kit || refuse 'on this machine the program needs the emulator of a Rattle kit, and there is none: put its rt on the path or set RATTLE_HOME'
-        [ -x "$tools/bin/qemu-x86_64" ] || refuse "the Rattle kit at $kit has no emulator for this machine, $(uname -m)"
-        # what is preloaded into this machine's programs is of no use in one for x86-64
-        set -- "$tools/bin/qemu-x86_64" -U LD_PRELOAD "$tools/lib/ld-linux-x86-64.so.2" --library-path "$tools/lib" "$@"
-    fi
     # so that the program is told of a reader that has gone, and can say it
     trap '' PIPE
     complaint=''
-    { complaint=$("$@" 2>&1 >&3 3>&-); } 3>&1
+    { complaint=$("$program" "$@" 2>&1 >&3 3>&-); } 3>&1
     status=$?
-    [ "$status" -eq 0 ] || complaint="${complaint:+$complaint
+    [ "$status" -eq 0 ] || { [ "$status" -eq 1 ] && [ -n "$complaint" ]; } || complaint="${complaint:+$complaint
 }$name: the program ended with status $status"
     [ -z "$complaint" ] || printf '%s\n' "$complaint" >&2
     [ -z "$complaint" ]
@@ -137,6 +134,7 @@ case $takes:$# in
     ;;
 esac
 { true 3>&1; } 2>/dev/null || refuse 'standard output is closed'
+[ "$(uname -m)" = x86_64 ] || refuse "the program is for x86-64, and this machine is another, $(uname -m)"
 
 is_current || build
 run "$@" || exit 1
