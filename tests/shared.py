@@ -31,7 +31,7 @@ def usage(text):
 
 
 def native(name):
-    """A program of these sources as a program of this machine."""
+    """The path of a program of these sources, proved and linked."""
     done = subprocess.run([os.path.join(ROOT, "tests", "native"), name], stdout=subprocess.PIPE, text=True)
     if done.returncode != 0:
         stop(f"there is no {name} to try")
