@@ -2,7 +2,7 @@
  * A host program that keeps 6522 timer pairs and lends them to the proved library, which has to do what the plain reference
  * here does: one clock, written down from the chip's rules, and arithmetic for runs that are too long to clock.
  *
- *     cc -std=c11 -Wall -Wextra -Werror -O2 -Iinclude -o host docs/src/host.c crates/lent_c/out/liblent_c.a
+ *     cc -std=c11 -Wall -Wextra -Werror -O2 -Iinclude -o host docs/src/host.c target/staticlib/liblent.a
  *
  * tests/lent makes it and runs it. The first difference is printed field by field and ends it with 1.
  */
