@@ -41,7 +41,7 @@ after_piece h failed e = absurd (false≢true e)
 after_piece h (piece []) e = absurd (false≢true e)
 after_piece h (piece (x ∷ p)) e = (x ∷ p, refl)
 
-pub goes_on : Demands.Goes_on
+pub goes_on : Demands.GoesOn
 goes_on h c buf out t buf' out' s e r =
     let q = after_piece h c (sym s.more ∙ e) in
     let n : holding t.bench (take t.kept buf') ≡ held h q.0 = s.holds ∙ q.1 in

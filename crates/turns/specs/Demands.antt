@@ -26,8 +26,8 @@ TurnsWriteSession =
     → written at_start (reads pieces later) ≡ session (joined pieces)
 
 -- a turn after which more may come leaves what one more piece leaves, and keeps at most 33 bytes
-abbrev pub Goes_on : Type 0
-Goes_on =
+abbrev pub GoesOn : Type 0
+GoesOn =
     (h : Held) (c : Came) (buf out : List ℕ) (t : Went) (buf' out' : List ℕ) → Shows (outcome h c) buf out t buf' out' → t.more ≡ true
     → Reached h → (t.kept ≤ 33) × Reached (holding t.bench (take t.kept buf'))
 
