@@ -2,16 +2,15 @@
 use mathlib.Core.Path.{◌≡◌, refl, ap, sym, ◌∙◌}
 use mathlib.Core.Bool.{Bool, true, false, ◌&&◌, true≢false}
 use mathlib.Core.List.{List}
-use Prim.Native.Nat.{ℕ, ◌+◌, ◌-◌, ◌*◌, ◌<◌, ◌≤◌}
+use Prim.Native.Nat.{ℕ, ◌+◌, ◌-◌, ◌*◌, ◌<◌, ◌≤◌, min}
 use native.Mathlib.Omega.{arith}
-use lib.IntN.{ℤ, pos, negsuc}
+use lib.IntN.{ℤ, pos, negsuc, nat_abs}
 use lib.ListN.{length, take, drop, length-take, length-drop}
 use lib.Seq.{take_at, length-take-le}
 use lib.Signed.{lt_z}
 use lib.Dec.{ltb}
 use borrow.Author.Tests.{ltb-true, ltb-false}
 use borrow.Rule.Slice.PartMut.{put_mid}
-use Rattle.io.specs.Counts.{clamp_len}
 use Rattle.session.specs.declared.Bench.{Bench}
 use Rattle.clocks.proofs.Tests.{both}
 use Rattle.turns.specs.Turns.{holding, bytes_of, Fits, Takes, Reached}
@@ -27,7 +26,7 @@ unfolding gave
 gave_none (pos k) most e = absurd (omega (arith, ltb-true k 0 e))
 gave_none (negsuc k) most e = refl
 
-pub gave_some : (got : ℤ) (most n : ℕ) → lt_z got (pos 0) ≡ false → n ≡ clamp_len got most → Bytes n ≡ gave got most
+pub gave_some : (got : ℤ) (most n : ℕ) → lt_z got (pos 0) ≡ false → n ≡ min (nat_abs got) most → Bytes n ≡ gave got most
 unfolding gave
 gave_some (pos k) most n e h = ap Bytes h
 gave_some (negsuc k) most n e h = absurd (true≢false e)

@@ -1,0 +1,17 @@
+use Prim.Native.Nat.{ℕ, ◌-◌}
+use native.Mathlib.Omega.{arith}
+use lib.ListN.{length}
+use borrow.Rule.Slice.PartMut.{same_len_mid, put_mid}
+use Rattle.bench.proofs.Turning.{front, space, fits, turned}
+use Rattle.bench.proofs.one_turn.Goals as goal
+
+pub returns : goal.returns
+returns g c =
+    let a = c.args in
+    let n = length a.buf.now - a.kept in
+    let read = c.got-got.new.space in
+    let e = front a.kept n a.buf.now read c.requires.0 in
+    let l = same_len_mid {X = ℕ} a.kept n a.buf.now read c.got-got.auto.space in
+    let b = put_mid a.kept n a.buf.now read in
+    let f = fits _ _ a.kept _ b a.out.now c.gave-read.ensures (space a.kept b (omega (arith, l, c.requires.0))) (omega (arith, l, c.requires.1)) in
+    turned _ _ _ c.gave-read.result _ _ _ _ c.taken-went.result c.said-written.result e f c.taken-went.ensures
