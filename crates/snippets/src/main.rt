@@ -2,18 +2,19 @@
 // tests/readme holds both against README.md.
 #![tactic(auto)]
 use clocks::Forecast;
-use libc::STDOUT_FILENO;
+use std::io;
+use std::io::Print;
 
-fn say(text: &[u8]) {
-    io::write_all(STDOUT_FILENO, text);
+fn say(rt: &impl Print, text: &[u8]) -> io::Result<()> {
+    rt.write_all(text)
 }
 
-fn say_line(name: &[u8], line: bool) {
-    say(name);
+fn say_line(rt: &impl Print, name: &[u8], line: bool) -> io::Result<()> {
+    say(rt, name)?;
     if line {
-        say(b" is true\n");
+        say(rt, b" is true\n")
     } else {
-        say(b" is false\n");
+        say(rt, b" is false\n")
     }
 }
 
@@ -23,36 +24,32 @@ fn digit(n: u8) -> u8 {
     if d < 10 { d + 48 } else { d + 55 }
 }
 
-fn say_byte(name: &[u8], byte: u8) {
+fn say_byte(rt: &impl Print, name: &[u8], byte: u8) -> io::Result<()> {
     let digits = [digit(byte / 16), digit(byte), 10];
-    say(name);
-    say(b" is 0x");
-    say(&digits);
+    say(rt, name)?;
+    say(rt, b" is 0x")?;
+    say(rt, &digits)
 }
 
-fn say_forecast(name: &[u8], forecast: Forecast) {
-    say(name);
+fn say_forecast(rt: &impl Print, name: &[u8], forecast: Forecast) -> io::Result<()> {
+    say(rt, name)?;
     match forecast {
-        Forecast::Never => say(b" is Forecast::Never\n"),
-        Forecast::In(clocks) => {
-            say(b" is Forecast::In(");
-            io::print_decimal(STDOUT_FILENO, clocks as u64);
-            say(b")\n");
-        }
+        Forecast::Never => say(rt, b" is Forecast::Never\n"),
+        Forecast::In(clocks) => println!(rt; " is Forecast::In({clocks})"),
     }
 }
 
-fn interval() {
+fn interval(rt: &impl Print) -> io::Result<()> {
     let riot = riot6532::Riot::power_up();
     let answer = riot.write(0x9D, 52); // load the timer: 52, divided by 8, interrupt enabled
     let ahead = answer.riot.forecast(); // ahead.forecast is Forecast::In(417)
     let later = answer.riot.run(417); // later.irq is true
     let forecast = ahead.forecast;
-    say_forecast(b"ahead.forecast", forecast);
-    say_line(b"later.irq", later.irq);
+    say_forecast(rt, b"ahead.forecast", forecast)?;
+    say_line(rt, b"later.irq", later.irq)
 }
 
-fn one_shot() {
+fn one_shot(rt: &impl Print) -> io::Result<()> {
     let via = via6522::Via::power_up();
     let enabled = via.write(14, 0xC0); // IER: T1 may interrupt
     let latched = enabled.via.write(4, 3); // T1's low latch
@@ -62,14 +59,14 @@ fn one_shot() {
     let read = later.via.read(4); // read.cleared is 0x40: the read cleared T1's flag
     let shown = read.answer; // shown.data is 0xFF, shown.irq is false
     let forecast = ahead.forecast;
-    say_forecast(b"ahead.forecast", forecast);
-    say_line(b"later.irq", later.irq);
-    say_byte(b"read.cleared", read.cleared);
-    say_byte(b"shown.data", shown.data);
-    say_line(b"shown.irq", shown.irq);
+    say_forecast(rt, b"ahead.forecast", forecast)?;
+    say_line(rt, b"later.irq", later.irq)?;
+    say_byte(rt, b"read.cleared", read.cleared)?;
+    say_byte(rt, b"shown.data", shown.data)?;
+    say_line(rt, b"shown.irq", shown.irq)
 }
 
-fn sender() {
+fn sender(rt: &impl Print) -> io::Result<()> {
     let via = via6522::Via::power_up();
     let outward = via.write(11, 0x18); // ACR: shift mode 6, out by the clock
     let written = outward.via.write(10, 0xA5); // SR: eight shifts to come, two clocks each
@@ -78,12 +75,12 @@ fn sender() {
     let done = written.via.run(16);
     let read = done.via.read(10); // read.cleared is 0x04: the eighth shift had set IFR2
     let shown = read.answer; // shown.data is 0xA5: the byte has come round
-    say_line(b"serial.output", serial.output);
-    say_byte(b"read.cleared", read.cleared);
-    say_byte(b"shown.data", shown.data);
+    say_line(rt, b"serial.output", serial.output)?;
+    say_byte(rt, b"read.cleared", read.cleared)?;
+    say_byte(rt, b"shown.data", shown.data)
 }
 
-fn served() {
+fn served(rt: &impl Print) -> io::Result<()> {
     let tpi = tpi6525::Tpi::power_up();
     let masked = tpi.write(5, 0x1F); // the mask: all five inputs are let through
     let ready = masked.tpi.write(6, 0x03); // CR: interrupt mode, with priority
@@ -91,16 +88,16 @@ fn served() {
     let read = fallen.tpi.read(7); // AIR: read.data is 0x02, read.irq is false: I1 is in service
     let lower = read.tpi.pins(0xFF, 0xFF, 0xFC); // I0 falls, and has to wait: lower.irq is false
     let ended = lower.tpi.write(7, 0); // I1's service ends: ended.irq is true
-    say_line(b"fallen.irq", fallen.irq);
-    say_byte(b"read.data", read.data);
-    say_line(b"read.irq", read.irq);
-    say_line(b"lower.irq", lower.irq);
-    say_line(b"ended.irq", ended.irq);
+    say_line(rt, b"fallen.irq", fallen.irq)?;
+    say_byte(rt, b"read.data", read.data)?;
+    say_line(rt, b"read.irq", read.irq)?;
+    say_line(rt, b"lower.irq", lower.irq)?;
+    say_line(rt, b"ended.irq", ended.irq)
 }
 
-fn main() {
-    interval();
-    one_shot();
-    sender();
-    served();
+fn main(rt: HostRuntime) -> io::Result<()> {
+    interval(&rt)?;
+    one_shot(&rt)?;
+    sender(&rt)?;
+    served(&rt)
 }
