@@ -1,12 +1,14 @@
 // The program: standard input is a session with repeats, standard output its answers.
 #![tactic(auto)]
+
 ghost use Rattle.std.specs.Prelude.{◌≡◌, ◌+◌, ◌*◌, ◌≤◌, length};
 ghost use Rattle.lines.specs.Places.{cut_of};
 ghost use Rattle.unrolled.specs.Windows.{number_of, Goes};
 ghost use Rattle.repeats.specs.Ends.{Ends};
 
-use libc::{STDIN_FILENO, STDOUT_FILENO};
 use session::Bench;
+use std::io;
+use std::io::Eprint;
 use unrolled::Gone;
 
 // How much of the input has come, and whether it could be read.
@@ -32,40 +34,40 @@ struct Ended {
 }
 
 // Whether all of a text was written; where not, standard error says why.
-fn said(text: &[u8]) -> bool {
-    let ok = io::write_all(STDOUT_FILENO, text);
-    if !ok {
-        os::fail(b"repeats: standard output");
+fn said<W: io::Write>(says: &impl Eprint, output: &mut W, text: &[u8]) -> bool {
+    match output.write_all(text) {
+        Ok(()) => true,
+        Err(e) => {
+            let _ = eprintln!(says; "repeats: standard output: {e}");
+            false
+        }
     }
-    ok
 }
 
 // One read behind the first n bytes; where it fails, standard error says why.
-fn more(buf: &mut [u8], n: usize) -> Came
+fn more<R: io::Read>(says: &impl Eprint, input: &mut R, buf: &mut [u8], n: usize) -> Came
     requires { n ≤ length buf.old }
     ensures { n + result.bytes ≤ length buf.new }
 {
-    let got = libc::read(STDIN_FILENO, &mut buf[n..]);
-    if got < 0 {
-        os::fail(b"repeats: standard input");
-        return Came {
-            bytes: 0,
-            read: false,
-        };
-    }
-    Came {
-        bytes: io::count(got, &buf[n..]),
-        read: true,
+    match input.read(&mut buf[n..]) {
+        Ok(bytes) => Came { bytes, read: true },
+        Err(e) => {
+            let _ = eprintln!(says; "repeats: standard input: {e}");
+            Came {
+                bytes: 0,
+                read: false,
+            }
+        }
     }
 }
 
 // The input up to its end, or as much of it as there is room for.
-fn input(buf: &mut [u8]) -> Came
+fn input<R: io::Read>(says: &impl Eprint, input: &mut R, buf: &mut [u8]) -> Came
     ensures { result.bytes ≤ length buf.new }
 {
     let mut n: usize = 0;
     while n < buf.len() {
-        let came = more(buf, n);
+        let came = more(says, input, buf, n);
         let bytes = came.bytes;
         if bytes == 0 {
             return Came {
@@ -82,7 +84,9 @@ fn input(buf: &mut [u8]) -> Came
 }
 
 // One window, and its answers written.
-fn one_window(
+fn one_window<W: io::Write>(
+    says: &impl Eprint,
+    output: &mut W,
     bench: Bench,
     file: &[u8],
     table: &[u32],
@@ -95,12 +99,18 @@ fn one_window(
 {
     let gone = unrolled::window(bench, file, table, from, places, out);
     let made = gone.played.made;
-    let written = said(&out[..made]);
+    let written = said(says, output, &out[..made]);
     Turn { gone, written }
 }
 
 // The lines of an accepted session, window by window, until all are played or not all could be written.
-fn windows(file: &[u8], table: &[u32], out: &mut [u8]) -> Ended
+fn windows<W: io::Write>(
+    says: &impl Eprint,
+    output: &mut W,
+    file: &[u8],
+    table: &[u32],
+    out: &mut [u8],
+) -> Ended
     requires { (number_of file.now ≡ 0) × (table.now ≡ cut_of file.now) × (425984 ≤ length out.old) }
     ensures { Ends file.now result }
 {
@@ -110,7 +120,7 @@ fn windows(file: &[u8], table: &[u32], out: &mut [u8]) -> Ended
     let mut written = true;
     let mut going = true;
     while going {
-        let turn = one_window(bench, file, table, played, &mut places, out);
+        let turn = one_window(says, output, bench, file, table, played, &mut places, out);
         let gone = turn.gone;
         let lines = gone.lines;
         let after = gone.played;
@@ -127,17 +137,23 @@ fn windows(file: &[u8], table: &[u32], out: &mut [u8]) -> Ended
 }
 
 // A whole session: its number where it is refused, else its answers.
-fn answered(file: &[u8], table: &mut [u32], out: &mut [u8]) -> Ended
+fn answered<W: io::Write>(
+    says: &impl Eprint,
+    output: &mut W,
+    file: &[u8],
+    table: &mut [u32],
+    out: &mut [u8],
+) -> Ended
     requires { (length table.old ≡ 32768) × (length out.old ≡ 425984) }
     ensures { Ends file.now result }
 {
     let begun = unrolled::begin(file, table, out);
     let lines = begun.lines;
     if begun.more {
-        return windows(file, &table[..lines], out);
+        return windows(says, output, file, &table[..lines], out);
     }
     let made = begun.made;
-    let written = said(&out[..made]);
+    let written = said(says, output, &out[..made]);
     Ended {
         bench: Bench::power_up(),
         played: 0,
@@ -145,13 +161,13 @@ fn answered(file: &[u8], table: &mut [u32], out: &mut [u8]) -> Ended
     }
 }
 
-fn main() {
+fn main(rt: HostRuntime) {
     let mut buf = [0u8; 32769];
     let mut table = [0u32; 32768];
     let mut out = [0u8; 425984];
-    let came = input(&mut buf);
+    let came = input(&rt, &mut rt.stdin(), &mut buf);
     let bytes = came.bytes;
     if came.read {
-        answered(&buf[..bytes], &mut table, &mut out);
+        answered(&rt, &mut rt.stdout(), &buf[..bytes], &mut table, &mut out);
     }
 }
