@@ -1,6 +1,7 @@
 // README's four examples, line by line as they stand there. The program writes what their comments say of the answers;
 // tests/readme holds both against README.md.
 #![tactic(auto)]
+
 use clocks::Forecast;
 use std::io;
 use std::io::Print;
