@@ -1,5 +1,6 @@
 // The program: standard input is a session, standard output its answers.
 #![tactic(auto)]
+
 ghost use Rattle.std.specs.Prelude.{◌≡◌, ◌+◌, ◌*◌, ◌≤◌, ◌≤ℤ◌, pos, length, take};
 ghost use Rattle.turns.specs.Turns.{holding};
 ghost use Rattle.bench.specs.Turns.{gave as gaveOf, Turned, Ends};

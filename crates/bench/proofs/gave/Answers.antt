@@ -1,4 +1,3 @@
-use mathlib.Core.Path.{ap}
 use mir.Facts.{to_z-of_z}
 use mir.Syntax.{w64}
 use Rattle.bench.proofs.Turning.{gave_none, gave_some}

@@ -2,8 +2,12 @@ use Prim.Native.Nat.{ℕ, ◌-◌}
 use native.Mathlib.Omega.{arith}
 use lib.ListN.{length}
 use borrow.Rule.Slice.PartMut.{same_len_mid, put_mid}
+use Rattle.turns.proofs.Turning.{made_within}
 use Rattle.bench.proofs.Turning.{front, space, fits, turned}
 use Rattle.bench.proofs.one_turn.Goals as goal
+
+pub slice_bounds-said-end : goal.slice_bounds-said-end
+slice_bounds-said-end g c = made_within c.taken-went.ensures
 
 pub returns : goal.returns
 returns g c =
