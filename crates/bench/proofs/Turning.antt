@@ -13,7 +13,7 @@ use borrow.Author.Tests.{ltb-true, ltb-false}
 use borrow.Rule.Slice.PartMut.{put_mid}
 use Rattle.session.specs.declared.Bench.{Bench}
 use Rattle.clocks.proofs.Tests.{both}
-use Rattle.turns.specs.Turns.{holding, bytes_of, Fits, Takes, Reached}
+use Rattle.turns.specs.Turns.{outcome, holding, bytes_of, brought, Shows, Fits, Takes, Reached}
 use Rattle.turns.specs.declared.Read.{Read}
 use Rattle.turns.specs.declared.Read.TheVariants.{Failed, Bytes}
 use Rattle.turns.specs.declared.Went.{Went}
@@ -41,6 +41,10 @@ gave_fits (negsuc k) most = omega arith
 pub front : (a k : ℕ) (xs ys : List ℕ) → a ≤ length xs → take a (put_mid a k xs ys) ≡ take a xs
 front a k xs ys h = take_at (take a xs) _ a (length-take-le a xs h)
 
+-- so many bytes are there
+pub part : (a n : ℕ) (xs : List ℕ) → n ≡ length xs - a → length (take n (drop a xs)) ≡ n
+part a n xs h = omega (arith, length-take n (drop a xs), length-drop a xs)
+
 -- the space for a read is what lies behind the kept bytes
 pub space : (kept : ℕ) (buf : List ℕ) → kept ≤ length buf → kept + length (take (length buf - kept) (drop kept buf)) ≤ length buf
 space kept buf h = simp (length-take, length-drop) (omega arith)
@@ -51,12 +55,18 @@ pub fits :
     → 3 * length buf + 13 ≤ length out → Fits kept read buf out
 fits got read kept most buf out e h l = let g = gave_fits got most in (rw e (omega arith), l)
 
+pub shown :
+    (b : Bench) (kept₀ : List ℕ) (kept : ℕ) (read : Read) (buf out buf' out' : List ℕ) (went : Went)
+    → take kept buf ≡ kept₀ → Fits kept read buf out → Takes b kept read buf out went buf' out'
+    → Shows (outcome (holding b kept₀) (brought read kept buf)) buf out went buf' out'
+shown b kept₀ kept read buf out buf' out' went e f t = rw (← e) (t.fits f)
+
 pub turned :
     (b : Bench) (kept₀ : List ℕ) (kept : ℕ) (read : Read) (buf out buf' out' : List ℕ) (went : Went) (written : Bool)
     → take kept buf ≡ kept₀ → Fits kept read buf out → Takes b kept read buf out went buf' out'
     → Turned (holding b kept₀) kept out (record { read = read; went = went; written = written }) buf' out'
 turned b kept₀ kept read buf out buf' out' went written e f t =
-    record { buf = buf; front = e; room = f.0; shows = rw (← e) (t.fits f) }
+    record { buf = buf; front = e; room = f.0; shows = shown b kept₀ kept read buf out buf' out' went e f t }
 
 -- ---- turn after turn
 
@@ -96,8 +106,9 @@ turn_on {kept = kept} t g (e, l) d b o =
 
 pub ends :
     {buf out : List ℕ} {bench : Bench} {kept turns : ℕ} {going : Bool} → Going buf out bench kept going turns
-    → (going && ltb turns 18446744073709551615) ≡ false → Ends (record { going = going; turns = turns })
-ends {turns = turns} {going} g e = record { stops = g.stops; goes = λ q. last going q e }
+    → (going && ltb turns 18446744073709551615) ≡ false → (whole : Bool)
+    → Ends (record { going = going; turns = turns; whole = whole })
+ends {turns = turns} {going} g e whole = record { stops = g.stops; goes = λ q. last going q e }
   where
     last : (b : Bool) → b ≡ true → (b && ltb turns 18446744073709551615) ≡ false → turns ≡ 18446744073709551615
     last true q e = let h = ltb-false turns 18446744073709551615 e in omega (arith, g.count)

@@ -1,9 +1,12 @@
 // The program: standard input is a session, standard output its answers.
 #![tactic(auto)]
 
-ghost use Rattle.std.specs.Prelude.{◌≡◌, ◌+◌, ◌*◌, ◌≤◌, ◌≤ℤ◌, pos, length, take};
+ghost use Rattle.std.specs.Prelude.{◌≡◌, ◌+◌, ◌*◌, ◌<◌, ◌≤◌, ◌≤ℤ◌, ◌↔◌, pos, true, length, take, IfSome};
+ghost use Rattle.std.specs.Io.KnownBytes.{Appends};
+ghost use Rattle.session.specs.Sessions.{session};
 ghost use Rattle.turns.specs.Turns.{holding};
 ghost use Rattle.bench.specs.Turns.{gave as gaveOf, Turned, Ends};
+ghost use Rattle.bench.specs.Streams.{Took, Streams};
 
 use session::Bench;
 use std::io;
@@ -18,16 +21,19 @@ struct Turn {
     written: bool,
 }
 
-// How the turns ended: whether the last of them would go on, and how many there were.
+// How the turns ended: whether the last of them would go on, how many there were, and whether the input came to its end and all of
+// its answers were written.
 #[derive(Clone, Copy)]
 struct Ended {
     going: bool,
     turns: u64,
+    whole: bool,
 }
 
 // What the system answers to a read: how many bytes it put into the space, or -1 where it failed; standard error says why.
 fn got<R: io::Read>(says: &impl Eprint, input: &mut R, space: &mut [u8]) -> isize
-    ensures { result ≤ℤ pos (length space.new) }
+    ensures within { result ≤ℤ pos (length space.new) }
+    ensures bytes { Took (R.remaining input.old) (R.remaining input.new) result space.new }
 {
     match input.read(space) {
         Ok(n) => n as isize,
@@ -48,8 +54,20 @@ fn gave(got: isize, space: &[u8]) -> Read
     Read::Bytes((got as usize).min(space.len()))
 }
 
+// Whether a read came to the end of the input.
+fn met_end(read: Read) -> bool
+    ensures { result ≡ true ↔ read ≡ Read.Bytes 0 }
+{
+    match read {
+        Read::Bytes(n) => n == 0,
+        Read::Failed => false,
+    }
+}
+
 // Whether all of a text was written; where not, standard error says why.
-fn said<W: io::Write>(says: &impl Eprint, output: &mut W, text: &[u8]) -> bool {
+fn said<W: io::Write>(says: &impl Eprint, output: &mut W, text: &[u8]) -> bool
+    ensures { result ≡ true → Appends (W.contents output.old) (W.contents output.new) text.now }
+{
     match output.write_all(text) {
         Ok(()) => true,
         Err(e) => {
@@ -70,7 +88,9 @@ fn one_turn<R: io::Read, W: io::Write>(
     out: &mut [u8],
 ) -> Turn
     requires { (kept ≤ length buf.old) × (3 * length buf.old + 13 ≤ length out.old) }
-    ensures { Turned (holding bench (take kept buf.old)) kept out.old result buf.new out.new }
+    ensures turned { Turned (holding bench (take kept buf.old)) kept out.old result buf.new out.new }
+    ensures streams { kept < length buf.old → Streams (holding bench (take kept buf.old)) (R.remaining input.old)
+        (R.remaining input.new) (W.contents output.old) (W.contents output.new) result buf.new }
 {
     let got = got(says, input, &mut buf[kept..]);
     let read = gave(got, &buf[kept..]);
@@ -86,7 +106,9 @@ fn one_turn<R: io::Read, W: io::Write>(
 
 // Turns until no more may come or not all was written. They are counted because the prover wants every loop to end, and input need not.
 fn all_turns<R: io::Read, W: io::Write>(says: &impl Eprint, input: &mut R, output: &mut W) -> Ended
-    ensures { Ends result }
+    ensures ends { Ends result }
+    ensures answers { result.whole ≡ true → IfSome (R.remaining input.old)
+        (λ s. Appends (W.contents output.old) (W.contents output.new) (session s)) }
 {
     let mut buf = [0u8; 65536];
     let mut out = [0u8; 196621];
@@ -94,15 +116,21 @@ fn all_turns<R: io::Read, W: io::Write>(says: &impl Eprint, input: &mut R, outpu
     let mut kept: usize = 0;
     let mut going = true;
     let mut turns: u64 = 0;
+    let mut whole = false;
     while going & (turns < u64::MAX) {
         let t = one_turn(says, input, output, bench, &mut buf, kept, &mut out);
         let went = t.went;
         bench = went.bench;
         kept = went.kept;
         going = went.more & t.written;
+        whole = t.written & met_end(t.read);
         turns += 1;
     }
-    Ended { going, turns }
+    Ended {
+        going,
+        turns,
+        whole,
+    }
 }
 
 fn main(rt: HostRuntime) {
