@@ -79,14 +79,6 @@ streams h c s {input} {input'} {output} {output'} read written b a =
 
 -- ---- read after read
 
-consumes_none : (a : Option (List ℕ)) → Consumes a a []
-consumes_none None = tt
-consumes_none (Some xs) = refl
-
-appends_none : (a : Option (List ℕ)) → Appends a a []
-appends_none None = tt
-appends_none (Some xs) = sym (append-nil xs)
-
 consumes_more : (a b c : Option (List ℕ)) (x y : List ℕ) → Consumes a b x → Consumes b c y → Consumes a c (x ++ y)
 consumes_more None b c x y p q = tt
 consumes_more (Some xs) None c x y p q = absurd p
@@ -145,13 +137,6 @@ pub record Open (input input' output output' : Option (List ℕ)) (h : Held) : T
 pub record Flow (input input' output output' : Option (List ℕ)) (h : Held) (going whole : Bool) : Type 0 where
   pub running : going ≡ true → Open input input' output output' h
   pub done : whole ≡ true → IfSome input (λ s. Appends output output' (session s))
-
-pub flow_start : (input output : Option (List ℕ)) (h : Held) → h ≡ at_start → Flow input input output output h true false
-flow_start input output h e =
-    record {
-      running = λ _. record { pieces = []; reached = e; came = consumes_none input; said = appends_none output };
-      done = λ q. absurd (false≢true q);
-    }
 
 after_piece :
     (h : Held) (c : Came) → (outcome h c).more ≡ true
