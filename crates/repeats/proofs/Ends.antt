@@ -13,9 +13,9 @@ use lib.Seq.{take-add, take-take, take-length}
 use Rattle.lines.specs.Places.{lines_at, cut_of}
 use Rattle.blocks.specs.Blocks.{itself, written_out}
 use Rattle.session.specs.Steps.{power_up}
-use Rattle.session.specs.Sessions.{next_all}
+use Rattle.session.specs.Sessions.{next_all, says_all}
 use Rattle.session.specs.declared.Bench.{Bench}
-use Rattle.session.proofs.Taking.{next_append}
+use Rattle.session.proofs.Taking.{next_append, says_append}
 use Rattle.unrolled.specs.Windows.{number_of, full_of, lines_from, Goes}
 use Rattle.unrolled.specs.declared.Gone.{Gone}
 use Rattle.unrolled.proofs.Windows.{full_lines, full_most}
@@ -32,11 +32,24 @@ as_many m xs = sym (take-take (length (take m xs)) m xs (omega (arith, length-ta
 -- ---- some lines more of a list
 
 module _ (all : List (List ℕ)) (b : Bench) (played room n : ℕ) (e : n ≡ length (take room (drop played all))) where
+  further : take (played + n) all ≡ take played all ++ take room (drop played all)
+  further =
+      take-add played n all
+      ∙ ap (λ (x : List (List ℕ)). take played all ++ x) (ap (λ (k : ℕ). take k (drop played all)) e ∙ as_many room (drop played all))
+
   pub next_played : b ≡ next_all power_up (take played all) → next_all b (take room (drop played all)) ≡ next_all power_up (take (played + n) all)
   next_played h =
       let ls = take room (drop played all) in
-      let t : take (played + n) all ≡ take played all ++ ls = take-add played n all ∙ ap (λ (x : List (List ℕ)). take played all ++ x) (ap (λ (k : ℕ). take k (drop played all)) e ∙ as_many room (drop played all)) in
-      ap (λ (c : Bench). next_all c ls) h ∙ sym (next_append power_up (take played all) ls) ∙ ap (next_all power_up) (sym t)
+      ap (λ (c : Bench). next_all c ls) h ∙ sym (next_append power_up (take played all) ls) ∙ ap (next_all power_up) (sym further)
+
+  pub next_said :
+      b ≡ next_all power_up (take played all)
+      → says_all power_up (take played all) ++ says_all b (take room (drop played all)) ≡ says_all power_up (take (played + n) all)
+  next_said h =
+      let ls = take room (drop played all) in
+      ap (λ (c : Bench). says_all power_up (take played all) ++ says_all c ls) h
+      ∙ sym (says_append power_up (take played all) ls)
+      ∙ ap (says_all power_up) (sym further)
 
   counted : n ≡ min room (length all - played)
   counted = e ∙ length-take room (drop played all) ∙ ap (min room) (length-drop played all)
@@ -87,6 +100,12 @@ module _
 
     on : played + g.lines ≤ length (full_of s)
     on = still_within (full_of s) b played (length notes) g.lines lines_is c.within
+
+    -- what it wrote, behind what was written before it
+    pub said_on : says_all power_up (take played (full_of s)) ++ take g.played.made text' ≡ says_all power_up (take (played + g.lines) (full_of s))
+    said_on =
+        ap (λ (x : List ℕ). says_all power_up (take played (full_of s)) ++ x) ((y.fits (enough c)).1.text ∙ ap (says_all b) had)
+        ∙ next_said (full_of s) b played (length notes) g.lines lines_is c.bench
 
     pub played_fits : played + g.lines ≤ 1000000
     played_fits = let m = full_most s c.accepted in let o = on in omega arith

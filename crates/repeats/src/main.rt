@@ -1,9 +1,10 @@
 // The program: standard input is a session with repeats, standard output its answers.
 #![tactic(auto)]
 
-ghost use Rattle.std.specs.Prelude.{◌≡◌, ◌+◌, ◌*◌, ◌≤◌, length};
+ghost use Rattle.std.specs.Prelude.{◌≡◌, ◌+◌, ◌*◌, ◌<◌, ◌≤◌, true, length, take, drop, IfSome};
+ghost use Rattle.std.specs.Io.KnownBytes.{Appends, Consumes, IsAtEnd};
 ghost use Rattle.lines.specs.Places.{cut_of};
-ghost use Rattle.unrolled.specs.Windows.{number_of, Goes};
+ghost use Rattle.unrolled.specs.Windows.{number_of, answer_of, Goes};
 ghost use Rattle.repeats.specs.Ends.{Ends};
 
 use session::Bench;
@@ -34,7 +35,9 @@ struct Ended {
 }
 
 // Whether all of a text was written; where not, standard error says why.
-fn said<W: io::Write>(says: &impl Eprint, output: &mut W, text: &[u8]) -> bool {
+fn said<W: io::Write>(says: &impl Eprint, output: &mut W, text: &[u8]) -> bool
+    ensures { result ≡ true → Appends (W.contents output.old) (W.contents output.new) text.now }
+{
     match output.write_all(text) {
         Ok(()) => true,
         Err(e) => {
@@ -47,7 +50,10 @@ fn said<W: io::Write>(says: &impl Eprint, output: &mut W, text: &[u8]) -> bool {
 // One read behind the first n bytes; where it fails, standard error says why.
 fn more<R: io::Read>(says: &impl Eprint, input: &mut R, buf: &mut [u8], n: usize) -> Came
     requires { n ≤ length buf.old }
-    ensures { n + result.bytes ≤ length buf.new }
+    ensures within { n + result.bytes ≤ length buf.new }
+    ensures front { take n buf.new ≡ take n buf.old }
+    ensures bytes { Consumes (R.remaining input.old) (R.remaining input.new) (take result.bytes (drop n buf.new)) }
+    ensures end { result.read ≡ true → result.bytes ≡ 0 → n < length buf.new → IsAtEnd (R.remaining input.new) }
 {
     match input.read(&mut buf[n..]) {
         Ok(bytes) => Came { bytes, read: true },
@@ -63,7 +69,9 @@ fn more<R: io::Read>(says: &impl Eprint, input: &mut R, buf: &mut [u8], n: usize
 
 // The input up to its end, or as much of it as there is room for.
 fn input<R: io::Read>(says: &impl Eprint, input: &mut R, buf: &mut [u8]) -> Came
-    ensures { result.bytes ≤ length buf.new }
+    ensures within { result.bytes ≤ length buf.new }
+    ensures bytes { Consumes (R.remaining input.old) (R.remaining input.new) (take result.bytes buf.new) }
+    ensures end { result.read ≡ true → result.bytes < length buf.new → IsAtEnd (R.remaining input.new) }
 {
     let mut n: usize = 0;
     while n < buf.len() {
@@ -95,7 +103,8 @@ fn one_window<W: io::Write>(
     out: &mut [u8],
 ) -> Turn
     requires { 13 * length places.old ≤ length out.old }
-    ensures { Goes bench file.now table.now from places.old out.old result.gone places.new out.new }
+    ensures goes { Goes bench file.now table.now from places.old out.old result.gone places.new out.new }
+    ensures says { result.written ≡ true → Appends (W.contents output.old) (W.contents output.new) (take result.gone.played.made out.new) }
 {
     let gone = unrolled::window(bench, file, table, from, places, out);
     let made = gone.played.made;
@@ -112,7 +121,8 @@ fn windows<W: io::Write>(
     out: &mut [u8],
 ) -> Ended
     requires { (number_of file.now ≡ 0) × (table.now ≡ cut_of file.now) × (425984 ≤ length out.old) }
-    ensures { Ends file.now result }
+    ensures ends { Ends file.now result }
+    ensures answers { result.written ≡ true → Appends (W.contents output.old) (W.contents output.new) (answer_of file.now) }
 {
     let mut places = [0u32; 32768];
     let mut bench = Bench::power_up();
@@ -145,7 +155,8 @@ fn answered<W: io::Write>(
     out: &mut [u8],
 ) -> Ended
     requires { (length table.old ≡ 32768) × (length out.old ≡ 425984) }
-    ensures { Ends file.now result }
+    ensures ends { Ends file.now result }
+    ensures answers { result.written ≡ true → Appends (W.contents output.old) (W.contents output.new) (answer_of file.now) }
 {
     let begun = unrolled::begin(file, table, out);
     let lines = begun.lines;
@@ -161,13 +172,23 @@ fn answered<W: io::Write>(
     }
 }
 
-fn main(rt: HostRuntime) {
+// All of the input, and its answers: whether it could be read and all could be written.
+fn whole<R: io::Read, W: io::Write>(says: &impl Eprint, from: &mut R, output: &mut W) -> bool
+    ensures { result ≡ true → IfSome (R.remaining from.old)
+        (λ s. Appends (W.contents output.old) (W.contents output.new) (answer_of s)) }
+{
     let mut buf = [0u8; 32769];
     let mut table = [0u32; 32768];
     let mut out = [0u8; 425984];
-    let came = input(&rt, &mut rt.stdin(), &mut buf);
+    let came = input(says, from, &mut buf);
     let bytes = came.bytes;
     if came.read {
-        answered(&rt, &mut rt.stdout(), &buf[..bytes], &mut table, &mut out);
+        let ended = answered(says, output, &buf[..bytes], &mut table, &mut out);
+        return ended.written;
     }
+    false
+}
+
+fn main(rt: HostRuntime) {
+    whole(&rt, &mut rt.stdin(), &mut rt.stdout());
 }
