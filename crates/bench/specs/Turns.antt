@@ -13,7 +13,7 @@ gave (pos k) most = Bytes (min k most)
 gave (negsuc k) most = Failed
 
 -- what a whole turn is, from what is held: the read put as many bytes as it says behind what is kept, and what they come to is shown.
--- Which bytes, no contract can say.
+-- Which bytes those are is said by Streams, where the input's are known; of standard input no contract can say it.
 pub record Turned (h : Held) (kept : ℕ) (out : List ℕ) (t : Turn) (buf' out' : List ℕ) : Type 0 where
   pub buf : List ℕ
   pub front : take kept buf ≡ h.kept
