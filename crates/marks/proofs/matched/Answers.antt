@@ -1,4 +1,5 @@
 use mathlib.Core.Path.{sym, ◌∙◌}
+use native.Mathlib.Omega.{arith}
 use borrow.Author.Tests.{lt-ltb, le-ltb}
 use Rattle.marks.proofs.Matches.{one_level, judging_start, judging_lost, judging_close, judging_deep, judging_open, judging_line, judging_end}
 use Rattle.marks.proofs.matched.Goals as goal
@@ -16,7 +17,7 @@ pub returns-then-depth-eq4 : goal.returns-then-depth-eq4
 returns-then-depth-eq4 c = let turned = c in let tested = turned in let loop = tested in judging_deep loop.loop-here.invariant loop.loop-here-test.true (sym tested.closes_at.ensures ∙ turned.if-closes_at.false) (rw (← (turned.turns_at.ensures ∙ one_level _)) c.if-turns_at-lt65536.true) c.if-depth-eq4.true
 
 pub loop-here-preserved-then-turns_at-lt65536 : goal.loop-here-preserved-then-turns_at-lt65536
-loop-here-preserved-then-turns_at-lt65536 c = let turned = c in let tested = turned in let loop = tested in judging_open loop.loop-here.invariant loop.loop-here-test.true (sym tested.closes_at.ensures ∙ turned.if-closes_at.false) (rw (← (turned.turns_at.ensures ∙ one_level _)) c.if-turns_at-lt65536.true) c.if-depth-eq4.false
+loop-here-preserved-then-turns_at-lt65536 c = let turned = c in let tested = turned in let loop = tested in judging_open loop.loop-here.invariant loop.loop-here-test.true (sym tested.closes_at.ensures ∙ turned.if-closes_at.false) (rw (← (turned.turns_at.ensures ∙ one_level _)) c.if-turns_at-lt65536.true) (omega arith)
 
 pub loop-here-preserved : goal.loop-here-preserved
 loop-here-preserved c = let turned = c in let tested = turned in let loop = tested in judging_line loop.loop-here.invariant loop.loop-here-test.true (sym tested.closes_at.ensures ∙ turned.if-closes_at.false) (rw (← (turned.turns_at.ensures ∙ one_level _)) c.if-turns_at-lt65536.false)

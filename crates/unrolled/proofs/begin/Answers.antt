@@ -1,3 +1,4 @@
+use Rattle.std.proofs.Common.{◌≤◌, length, arith}
 use mathlib.Core.Path.{sym}
 use mathlib.Core.Logic.{inl, inr}
 use lib.Seq.{length-take-le}
@@ -17,7 +18,7 @@ pub slice_bounds-refusal-end-2 : goal.slice_bounds-refusal-end-2
 slice_bounds-refusal-end-2 c = sym (length-take-le _ _ (written_within c.cut-lines.ensures))
 
 pub returns-then-code-gt0 : goal.returns-then-code-gt0
-returns-then-code-gt0 c = let put = c in let judged = put in let cut = judged in let room = cut in begins_refused _ _ _ room.if-table-lt32768.false room.if-out-lt13.false cut.cut-lines.ensures judged.refusal-code.ensures _ _ put.if-code-gt0.true put.put_refusal-made.ensures
+returns-then-code-gt0 c = let h : 32768 ≤ length c.args.table.now = omega arith in let g : 13 ≤ length c.args.out.now = omega arith in begins_refused _ _ _ h g c.cut-lines.ensures c.refusal-code.ensures _ _ c.if-code-gt0.true c.put_refusal-made.ensures
 
 pub returns : goal.returns
-returns c = let judged = c in let cut = judged in let room = cut in begins_accepted _ _ _ room.if-table-lt32768.false room.if-out-lt13.false cut.cut-lines.ensures judged.refusal-code.ensures c.if-code-gt0.false
+returns c = let h : 32768 ≤ length c.args.table.now = omega arith in let g : 13 ≤ length c.args.out.now = omega arith in begins_accepted _ _ _ h g c.cut-lines.ensures c.refusal-code.ensures c.if-code-gt0.false

@@ -27,10 +27,9 @@ overflow_add-at c =
 pub loop-at-preserved : goal.loop-at-preserved
 loop-at-preserved c =
     let g = c.loop-at.invariant in
-    let h = c.if-out-made-lt13.false in
     let a = c.answered-after in
     let p = c.put-made in
-    going_on _ _ g _ (stepped _ a.result) _ _ c.line_end-end.ensures c.if-input-end.false (omega (arith, g.room, h)) a.ensures
+    going_on _ _ g _ (stepped _ a.result) _ _ c.line_end-end.ensures c.if-input-end.false (omega (arith, g.room)) a.ensures
     p.auto.out p.ensures
 
 pub returns : goal.returns
