@@ -83,7 +83,6 @@ def main():
             ghost = name.endswith(".rt")
             new = DEFINITION.sub("", imports(text, ghost))
             if not ghost:
-                new = "\n".join(new.split("\n"))
                 new = grouped(new)
             if new != text:
                 changed += 1

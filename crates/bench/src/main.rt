@@ -5,7 +5,7 @@ ghost use Rattle.std.specs.Prelude.{◌≡◌, ◌+◌, ◌*◌, ◌<◌, ◌≤
 ghost use Rattle.std.specs.Io.KnownBytes.{Appends};
 ghost use Rattle.session.specs.Sessions.{session};
 ghost use Rattle.turns.specs.Turns.{holding};
-ghost use Rattle.bench.specs.Turns.{gave as gaveOf, Turned, Ends};
+ghost use Rattle.bench.specs.Turns.{gave as gave_of, Turned, Ends};
 ghost use Rattle.bench.specs.Streams.{Took, Streams};
 
 use session::Bench;
@@ -46,7 +46,7 @@ fn got<R: io::Read>(says: &impl Eprint, input: &mut R, space: &mut [u8]) -> isiz
 
 // The answer of a read that had this space, as a number of bytes.
 fn gave(got: isize, space: &[u8]) -> Read
-    ensures { result ≡ gaveOf got (length space.now) }
+    ensures { result ≡ gave_of got (length space.now) }
 {
     if got < 0 {
         return Read::Failed;

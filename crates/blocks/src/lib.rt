@@ -2,10 +2,10 @@
 #![tactic(auto)]
 
 ghost use Rattle.std.specs.Prelude.{◌≡◌, List, ℕ, ◌≤◌, ◌<◌, ◌+◌, ◌-◌, ◌*◌, min, ltb, length, take, drop};
-ghost use Rattle.blocks.specs.Windows.{window as windowOf, note_of, notes, Last};
+ghost use Rattle.blocks.specs.Windows.{window as window_of, note_of, notes, Last};
 ghost use Rattle.lines.specs.Written.{Written};
 ghost use Rattle.lines.specs.Places.{line_at};
-ghost use Rattle.blocks.specs.Blocks.{times as timesOf, others, blocks_of, written_out};
+ghost use Rattle.blocks.specs.Blocks.{times as times_of, others, blocks_of, written_out};
 ghost use Rattle.blocks.specs.Judged.{refusal_of};
 ghost use Rattle.blocks.specs.Walks.{ThroughBlock, ThroughLine};
 
@@ -27,7 +27,7 @@ struct Repeated {
 
 // One more line: passed over, noted, or too late. The walk goes on at `at`.
 fn note(out: &mut [u32], at: usize, p: u32, skip: usize, used: usize) -> Walked
-    ensures { (result.at ≡ at) × (windowOf result.skip result.used out.new ≡ note_of (windowOf skip used out.old) p) }
+    ensures { (result.at ≡ at) × (window_of result.skip result.used out.new ≡ note_of (window_of skip used out.old) p) }
 {
     if 0 < skip {
         let skip = skip - 1;
@@ -44,7 +44,7 @@ fn note(out: &mut [u32], at: usize, p: u32, skip: usize, used: usize) -> Walked
 // The last `size` that are noted come once more, as far as there is room.
 fn copied(out: &mut [u32], used: usize, size: usize) -> usize
     requires { (size ≤ used) × (used ≤ length out.old) }
-    ensures { windowOf 0 result out.new ≡ notes (windowOf 0 used out.old) (take size (drop (used - size) out.old)) }
+    ensures { window_of 0 result out.new ≡ notes (window_of 0 used out.old) (take size (drop (used - size) out.old)) }
 {
     let from = used - size;
     let mut to = used;
@@ -63,7 +63,7 @@ fn copied(out: &mut [u32], used: usize, size: usize) -> usize
 // And so many times more.
 fn again(out: &mut [u32], used: usize, size: usize, times: u32) -> usize
     requires { (size ≤ used) × (used ≤ length out.old) }
-    ensures { windowOf 0 result out.new ≡ notes (windowOf 0 used out.old) (timesOf times (take size (drop (used - size) out.old))) }
+    ensures { window_of 0 result out.new ≡ notes (window_of 0 used out.old) (times_of times (take size (drop (used - size) out.old))) }
 {
     if size == 0 {
         return used;
@@ -98,7 +98,7 @@ fn onward(
 ) -> Repeated
     requires { (noted ≤ used) × (used ≤ length out.old) × (0 < noted → skip ≡ 0) }
     ensures { (result.done ≤ left)
-        × ((o : List ℕ) → Last o passed noted used out.old → windowOf result.skip result.used out.new ≡ notes (windowOf skip used out.old) (timesOf result.done o)) }
+        × ((o : List ℕ) → Last o passed noted used out.old → window_of result.skip result.used out.new ≡ notes (window_of skip used out.old) (times_of result.done o)) }
 {
     let done: u32 = 0;
     if out.len() <= used {
@@ -156,7 +156,7 @@ fn line(
     used: usize,
 ) -> Walked
     requires { (at < length table.now) × (used < length out.old) }
-    ensures { ThroughLine (line_at text.now) table.now at levels (windowOf skip used out.old) result out.new }
+    ensures { ThroughLine (line_at text.now) table.now at levels (window_of skip used out.old) result out.new }
 {
     let p = table[at];
     let from = at + 1;
@@ -197,7 +197,7 @@ fn block(
     used: usize,
 ) -> Walked
     requires { (at ≤ length table.now) × (used < length out.old) }
-    ensures { ThroughBlock (line_at text.now) table.now at levels (windowOf skip used out.old) result out.new }
+    ensures { ThroughBlock (line_at text.now) table.now at levels (window_of skip used out.old) result out.new }
 {
     let mut at = at;
     let mut skip = skip;

@@ -3,8 +3,8 @@
 
 ghost use Rattle.std.specs.Prelude.{◌≡◌, List, ℕ, ◌≤◌, if◌then◌else◌};
 ghost use Rattle.clocks.specs.Forecasts.{number_of};
-ghost use Rattle.calling.specs.Told.{replied as repliedOf, line_of, lines45 as lines45Of};
-ghost use Rattle.calling.specs.After.{done22 as done22Of, data22 as data22Of, done25 as done25Of, data25 as data25Of, done32 as done32Of, data32 as data32Of, done45 as done45Of, shown45, data45 as data45Of, turns45 as turns45Of, turned45, ran45 as ran45Of, after22, after25, After, after45};
+ghost use Rattle.calling.specs.Told.{replied as replied_of, line_of, lines45 as lines45_of};
+ghost use Rattle.calling.specs.After.{done22 as done22_of, data22 as data22_of, done25 as done25_of, data25 as data25_of, done32 as done32_of, data32 as data32_of, done45 as done45_of, shown45, data45 as data45_of, turns45 as turns45_of, turned45, ran45 as ran45_of, after22, after25, After, after45};
 
 use calls::{Call22, Call25, Call32, Call45};
 use clocks::{Forecast, choose8};
@@ -42,7 +42,7 @@ pub struct After45 {
 
 // A refused call is answered by its number alone.
 fn replied(refusal: u8, reply: Reply) -> Reply
-    ensures { result ≡ repliedOf refusal reply }
+    ensures { result ≡ replied_of refusal reply }
 {
     if refusal == 0 {
         reply
@@ -65,13 +65,13 @@ fn read(irq: bool, data: u8, cleared: u8) -> Reply
 }
 
 fn ahead(refusal: u8, irq: bool, forecast: Forecast) -> Reply
-    ensures { result ≡ repliedOf refusal (Reply.Number (line_of irq) (number_of forecast)) }
+    ensures { result ≡ replied_of refusal (Reply.Number (line_of irq) (number_of forecast)) }
 {
     replied(refusal, Reply::Number(line(irq), forecast.number()))
 }
 
 fn done22(answer: via6522::Answer) -> After22
-    ensures { result ≡ done22Of answer }
+    ensures { result ≡ done22_of answer }
 {
     let via = answer.via;
     After22 {
@@ -81,7 +81,7 @@ fn done22(answer: via6522::Answer) -> After22
 }
 
 fn data22(reading: via6522::Reading) -> After22
-    ensures { result ≡ data22Of reading }
+    ensures { result ≡ data22_of reading }
 {
     let answer = reading.answer;
     let via = answer.via;
@@ -119,7 +119,7 @@ pub fn on22(via: Via, call: Call22) -> After22
 }
 
 fn done25(answer: tpi6525::Answer) -> After25
-    ensures { result ≡ done25Of answer }
+    ensures { result ≡ done25_of answer }
 {
     let tpi = answer.tpi;
     After25 {
@@ -130,7 +130,7 @@ fn done25(answer: tpi6525::Answer) -> After25
 
 // No mask follows the byte that a read of the 6525 gives.
 fn data25(answer: tpi6525::Answer) -> After25
-    ensures { result ≡ data25Of answer }
+    ensures { result ≡ data25_of answer }
 {
     let tpi = answer.tpi;
     let reply = Reply::Data(line(answer.irq), answer.data);
@@ -153,7 +153,7 @@ pub fn on25(tpi: Tpi, call: Call25) -> After25
 }
 
 fn done32(answer: riot6532::IoAnswer) -> After32
-    ensures { result ≡ done32Of answer }
+    ensures { result ≡ done32_of answer }
 {
     let io = answer.io;
     After32 {
@@ -163,7 +163,7 @@ fn done32(answer: riot6532::IoAnswer) -> After32
 }
 
 fn data32(reading: riot6532::IoReading) -> After32
-    ensures { result ≡ data32Of reading }
+    ensures { result ≡ data32_of reading }
 {
     let answer = reading.answer;
     let io = answer.io;
@@ -209,7 +209,7 @@ fn weight(on: bool, w: u8) -> u8
 
 // Four lines of the 6545 in bits 0 to 3.
 fn lines45(answer: crtc6545::Answer) -> u8
-    ensures { result ≡ lines45Of answer }
+    ensures { result ≡ lines45_of answer }
 {
     weight(answer.de, 1)
         + weight(answer.hsync, 2)
@@ -229,7 +229,7 @@ fn shown(undriven: bool, lines: u8, data: u8) -> Reply
 }
 
 fn done45(answer: crtc6545::Answer) -> After45
-    ensures { result ≡ done45Of answer }
+    ensures { result ≡ done45_of answer }
 {
     let crtc = answer.crtc;
     After45 {
@@ -239,7 +239,7 @@ fn done45(answer: crtc6545::Answer) -> After45
 }
 
 fn data45(reading: crtc6545::Reading) -> After45
-    ensures { result ≡ data45Of reading }
+    ensures { result ≡ data45_of reading }
 {
     let answer = reading.answer;
     let crtc = answer.crtc;
@@ -252,7 +252,7 @@ fn data45(reading: crtc6545::Reading) -> After45
 
 // The turns of a run, worked out only where they are asked for.
 fn turns45(crtc: Crtc, n: u32, counted: bool) -> u64
-    ensures { result ≡ turns45Of crtc n counted }
+    ensures { result ≡ turns45_of crtc n counted }
 {
     if counted {
         let raster = crtc.raster;
@@ -274,7 +274,7 @@ fn turned(counted: bool, byte: u8, turns: u64) -> Reply
 }
 
 fn ran45(counted: bool, turns: u64, answer: crtc6545::Answer) -> After45
-    ensures { result ≡ ran45Of counted turns answer }
+    ensures { result ≡ ran45_of counted turns answer }
 {
     let crtc = answer.crtc;
     let reply = turned(counted, lines45(answer), turns);

@@ -1,6 +1,6 @@
 -- One theory for all chips of the bench: what makes a chip, its answer to a call, the records that can come up, and the demands on them.
 -- Each chip's specs/Chip.antt fills in Chip and Clocked, and where there is a forecast Lined; its specs/Demands.antt asks for Answers and Runs
--- of them, and then for Lines, Keeps-word and Largest-forecast.
+-- of them, and then for Lines, KeepsWord and LargestForecast.
 use Rattle.std.specs.Prelude.{◌≡◌, Bool, true, false, ◌↔◌, ℕ, suc, ◌+◌, ◌-◌, ◌<◌, ◌≤◌, eqb, if◌then◌else◌}
 use Rattle.clocks.specs.Clocks.{after}
 use Rattle.clocks.specs.Bits.{gone}

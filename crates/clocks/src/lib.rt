@@ -3,7 +3,7 @@
 
 ghost use Rattle.std.specs.Prelude.{◌≡◌, if◌then◌else◌};
 ghost use Rattle.clocks.specs.Forecasts.{number_of, sooner_of};
-ghost use Rattle.clocks.specs.Bits.{bit as bit_of, with_set, with_clear, gone as goneOf, merge as mergeOf, shares as shares_of};
+ghost use Rattle.clocks.specs.Bits.{bit as bit_of, with_set, with_clear, gone as gone_of, merge as merge_of, shares as shares_of};
 
 // When a flag is set or a line asserted: so many clocks from now, or never.
 #[derive(Clone, Copy)]
@@ -61,7 +61,7 @@ pub fn bit(k: u8, x: u8) -> bool
 
 // The bits of x where the mask is 1, those of y where it is 0.
 pub fn merge(mask: u8, x: u8, y: u8) -> u8
-    ensures { result ≡ mergeOf mask x y }
+    ensures { result ≡ merge_of mask x y }
 {
     (x & mask) | (y & !mask)
 }
@@ -75,7 +75,7 @@ pub fn with_mask(mask: u8, on: bool, x: u8) -> u8
 
 // The bits that are set before and clear after.
 pub fn gone(before: u8, after: u8) -> u8
-    ensures { result ≡ goneOf before after }
+    ensures { result ≡ gone_of before after }
 {
     before & !after
 }

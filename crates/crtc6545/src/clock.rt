@@ -1,13 +1,13 @@
 // The pen's strobe, and n clocks.
 ghost use Rattle.std.specs.Prelude.{◌≡◌};
 ghost use Rattle.clocks.specs.Clocks.{after};
-ghost use Rattle.crtc6545.specs.Clock.{strobed as strobedOf, clock_of};
+ghost use Rattle.crtc6545.specs.Clock.{strobed as strobed_of, clock_of};
 
 use crate::{Crtc, Kept, Light};
 
 impl Light {
     fn strobed(mut self, ma: u16) -> Light
-        ensures { result ≡ strobedOf ma self }
+        ensures { result ≡ strobed_of ma self }
     {
         if !self.waiting {
             return self;

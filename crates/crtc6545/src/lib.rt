@@ -4,7 +4,7 @@
 ghost use Rattle.std.specs.Prelude.{◌≡◌, true, false, if◌then◌else◌};
 ghost use Rattle.chips.specs.Chips.{answer};
 ghost use Rattle.crtc6545.specs.Record.{well_formed, power_up};
-ghost use Rattle.crtc6545.specs.Chip.{chip, accepted as acceptedOf, refused as refusedOf, reading_of, with_turns, running_of};
+ghost use Rattle.crtc6545.specs.Chip.{chip, accepted as accepted_of, refused as refused_of, reading_of, with_turns, running_of};
 
 use calls::Call45;
 use clocks::{bit, choose8};
@@ -92,7 +92,7 @@ impl Crtc {
     }
 
     fn accepted(self, data: u8) -> Answer
-        ensures { result ≡ acceptedOf «data» self }
+        ensures { result ≡ accepted_of «data» self }
     {
         let raster = self.raster;
         let kept = self.kept;
@@ -112,7 +112,7 @@ impl Crtc {
     }
 
     fn refused(self, number: u8) -> Answer
-        ensures { result ≡ refusedOf number self }
+        ensures { result ≡ refused_of number self }
     {
         Answer {
             refusal: number,

@@ -3,7 +3,7 @@
 #![tactic(auto)]
 
 ghost use Rattle.std.specs.Prelude.{◌≡◌};
-ghost use Rattle.flags.specs.Flags.{allowed_code, allowed_pcr, edge2 as edge2Of, edge_ca1, edge_ca2, edge_cb1, edge_cb2, set as setOf, raised as raisedOf, keeps_a, keeps_b, independent as independentOf, flags_a, flags_b, access_clears, read_clears, write_clears, shown as shownOf, enabled as enabledOf};
+ghost use Rattle.flags.specs.Flags.{allowed_code, allowed_pcr, edge2 as edge2_of, edge_ca1, edge_ca2, edge_cb1, edge_cb2, set as set_of, raised as raised_of, keeps_a, keeps_b, independent as independent_of, flags_a, flags_b, access_clears, read_clears, write_clears, shown as shown_of, enabled as enabled_of};
 
 use clocks::{bit, choose8, with_mask};
 use ports::edge;
@@ -23,7 +23,7 @@ pub fn allowed_pcr(pcr: u8) -> bool
 
 // An edge of CA2 or CB2. The output codes see none.
 fn edge2(code: u8, old: bool, new: bool) -> bool
-    ensures { result ≡ edge2Of code old new }
+    ensures { result ≡ edge2_of code old new }
 {
     (code < 4) & edge(1 < code, old, new)
 }
@@ -53,14 +53,14 @@ fn edge_cb2(pcr: u8, old: u8, new: u8) -> bool
 }
 
 fn set(mask: u8, edge: bool, ifr: u8) -> u8
-    ensures { result ≡ setOf mask edge ifr }
+    ensures { result ≡ set_of mask edge ifr }
 {
     choose8(edge, with_mask(mask, true, ifr), ifr)
 }
 
 // IFR after the edges of the four control lines.
 pub fn raised(pcr: u8, old: u8, new: u8, ifr: u8) -> u8
-    ensures { result ≡ raisedOf pcr old new ifr }
+    ensures { result ≡ raised_of pcr old new ifr }
 {
     let cb1 = set(16, edge_cb1(pcr, old, new), ifr);
     let cb2 = set(8, edge_cb2(pcr, old, new), cb1);
@@ -82,7 +82,7 @@ pub fn keeps_b(pcr: u8, old: u8, new: u8, ifr: u8) -> bool
 }
 
 fn independent(code: u8) -> bool
-    ensures { result ≡ independentOf code }
+    ensures { result ≡ independent_of code }
 {
     (code == 1) | (code == 3)
 }
@@ -141,14 +141,14 @@ pub fn write_clears(register: u8, value: u8, pcr: u8) -> u8
 
 // IFR as a read shows it, the interrupt in bit 7.
 pub fn shown(ifr: u8, ier: u8) -> u8
-    ensures { result ≡ shownOf ifr ier }
+    ensures { result ≡ shown_of ifr ier }
 {
     with_mask(128, clocks::shares(ifr, ier), ifr)
 }
 
 // IER after a write.
 pub fn enabled(value: u8, ier: u8) -> u8
-    ensures { result ≡ enabledOf value ier }
+    ensures { result ≡ enabled_of value ier }
 {
     with_mask(value % 128, bit(7, value), ier)
 }

@@ -2,7 +2,7 @@
 #![tactic(auto)]
 
 ghost use Rattle.std.specs.Prelude.{◌≡◌};
-ghost use Rattle.inputs.specs.Inputs.{well_inputs, idle as idleOf, highest_of, edges_of, pinned as pinned_of, shown as shownOf, asserted as assertedOf, taken as taken_of, ended as ended_of, kept as kept_of};
+ghost use Rattle.inputs.specs.Inputs.{well_inputs, idle as idle_of, highest_of, edges_of, pinned as pinned_of, shown as shown_of, asserted as asserted_of, taken as taken_of, ended as ended_of, kept as kept_of};
 
 use clocks::{bit, choose8, gone};
 
@@ -33,7 +33,7 @@ fn edges(cr: u8, old: u8, new: u8) -> u8
 
 impl Inputs {
     pub fn idle() -> Inputs
-        ensures { result ≡ idleOf }
+        ensures { result ≡ idle_of }
     {
         Inputs {
             latch: 0,
@@ -60,7 +60,7 @@ impl Inputs {
 
     // What the active interrupt register shows.
     pub fn shown(self, cr: u8, mask: u8) -> u8
-        ensures { result ≡ shownOf cr mask self }
+        ensures { result ≡ shown_of cr mask self }
     {
         if !bit(0, cr) {
             return 0;
@@ -71,7 +71,7 @@ impl Inputs {
 
     // The interrupt. Inputs in service are all lower than one that is shown alone exactly if they come to less than its weight.
     pub fn asserted(self, cr: u8, mask: u8) -> bool
-        ensures { result ≡ assertedOf cr mask self }
+        ensures { result ≡ asserted_of cr mask self }
     {
         let shown = self.shown(cr, mask);
         if bit(1, cr) {

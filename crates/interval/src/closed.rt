@@ -1,14 +1,14 @@
 // Where a number of clocks leads, without going through them.
 ghost use Rattle.std.specs.Prelude.{◌≡◌, ◌<◌, ◌≤◌, true};
 ghost use Rattle.interval.specs.Timer.{well_timed};
-ghost use Rattle.interval.specs.Closed.{counts_of, fallen as fallenOf, spent as spentOf};
+ghost use Rattle.interval.specs.Closed.{counts_of, fallen as fallen_of, spent as spent_of};
 
 use crate::Timer;
 
 impl Timer {
     // The timer at `k`, after it passed zero: only the first passing sets the flag.
     pub(crate) fn spent(mut self, k: u8) -> Timer
-        ensures { result ≡ spentOf k self }
+        ensures { result ≡ spent_of k self }
     {
         self.value = k;
         self.prescaler = 1;
@@ -33,7 +33,7 @@ impl Timer {
     // The timer at `k` counts above zero, no passing between.
     pub(crate) fn fallen(mut self, k: u32) -> Timer
         requires { (well_timed self ≡ true) × (k ≤ counts_of self) }
-        ensures { result ≡ fallenOf k self }
+        ensures { result ≡ fallen_of k self }
     {
         if self.expired {
             self.value = k as u8;

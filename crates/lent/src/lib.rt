@@ -3,7 +3,7 @@
 
 ghost use Rattle.std.specs.Prelude.{◌≡◌};
 ghost use Rattle.clocks.specs.Clocks.{after};
-ghost use Rattle.timers.specs.Pair.{well_formed, clocked as clockedPair};
+ghost use Rattle.timers.specs.Pair.{well_formed, clocked as clocked_pair};
 ghost use Rattle.lent.specs.Lent.{refusal_of, left_of, outcome, clock_pair, run_pair};
 
 use timers::Timers;
@@ -22,13 +22,13 @@ fn refusal(p: Timers) -> u8
 }
 
 fn clocked(p: Timers) -> Timers
-    ensures { result ≡ left_of clockedPair p }
+    ensures { result ≡ left_of clocked_pair p }
 {
     if refusal(p) == 0 { p.clock() } else { p }
 }
 
 fn ran(p: Timers, n: u32) -> Timers
-    ensures { result ≡ left_of (after n clockedPair) p }
+    ensures { result ≡ left_of (after n clocked_pair) p }
 {
     if refusal(p) == 0 { p.run(n) } else { p }
 }

@@ -3,11 +3,11 @@
 
 ghost use Rattle.std.specs.Prelude.{◌≡◌};
 ghost use Rattle.lines.specs.Places.{line_at};
-ghost use Rattle.marks.specs.Marks.{closes as closesOf, count_of, turns_of};
+ghost use Rattle.marks.specs.Marks.{closes as closes_of, count_of, turns_of};
 ghost use Rattle.marks.specs.Matches.{match_of};
 
 fn closes(line: &[u8]) -> bool
-    ensures { result ≡ closesOf line.now }
+    ensures { result ≡ closes_of line.now }
 {
     if line.len() != 2 {
         return false;
@@ -32,7 +32,7 @@ fn count(line: &[u8]) -> u32
 
 // Whether the line at a place closes a repeat.
 pub fn closes_at(text: &[u8], p: u32) -> bool
-    ensures { result ≡ closesOf (line_at text.now p) }
+    ensures { result ≡ closes_of (line_at text.now p) }
 {
     let end = lines::end_at(text, p);
     let start = lines::start_at(text, p);

@@ -2,7 +2,7 @@
 #![tactic(auto)]
 
 ghost use Rattle.std.specs.Prelude.{◌≡◌};
-ghost use Rattle.ports.specs.Ports.{fresh, silent as silentOf, lines_for, lines_of, edge as edge_of};
+ghost use Rattle.ports.specs.Ports.{fresh, silent as silent_of, lines_for, lines_of, edge as edge_of};
 
 // The output bits, the levels outside, and the direction bits: 1 drives the line.
 #[derive(Clone, Copy)]
@@ -25,7 +25,7 @@ impl Port {
 
     // What a reset leaves: the levels outside are not the chip's to change.
     pub fn silent(mut self) -> Port
-        ensures { result ≡ silentOf self }
+        ensures { result ≡ silent_of self }
     {
         self.output = 0;
         self.ddr = 0;

@@ -3,8 +3,8 @@
 
 ghost use Rattle.std.specs.Prelude.{◌≡◌};
 ghost use Rattle.clocks.specs.Clocks.{after};
-ghost use Rattle.raster.specs.Record.{allowed_r8, well_raster, raster_up, restarted as restartedOf};
-ghost use Rattle.raster.specs.Access.{stored as storedOf};
+ghost use Rattle.raster.specs.Record.{allowed_r8, well_raster, raster_up, restarted as restarted_of};
+ghost use Rattle.raster.specs.Access.{stored as stored_of};
 ghost use Rattle.raster.specs.Clock.{raster_clocked};
 ghost use Rattle.raster.specs.Signals.{signals_of};
 
@@ -106,7 +106,7 @@ impl Raster {
 
     // A write of register k.
     pub fn stored(mut self, k: u8, value: u8) -> Raster
-        ensures { result ≡ storedOf k value self }
+        ensures { result ≡ stored_of k value self }
     {
         let registers = self.registers;
         self.registers = registers.put(k, access::fitted(k, value));
@@ -115,7 +115,7 @@ impl Raster {
 
     // What a reset does: the first line of a frame at the start that the registers hold.
     pub fn restarted(mut self) -> Raster
-        ensures { result ≡ restartedOf self }
+        ensures { result ≡ restarted_of self }
     {
         let registers = self.registers;
         let line = Line {

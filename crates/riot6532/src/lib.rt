@@ -118,7 +118,7 @@ impl Riot {
     // The largest forecast of a reached record: 255 over 1024, just loaded.
     pub const LARGEST_FORECAST: u32 = 261121;
 
-    // The constant is the number that Forecast-bound proves.
+    // The constant is the number that ForecastBound proves.
     fn largest() -> u32
         ensures { result ≡ largest_forecast }
     {

@@ -5,8 +5,8 @@
 ghost use Rattle.std.specs.Prelude.{◌≡◌, Bool, ℕ, ◌≤◌};
 ghost use Rattle.clocks.specs.Clocks.{after};
 ghost use Rattle.clocks.specs.Forecasts.{comes};
-ghost use Rattle.shifter.specs.Shifter.{by_clock, by_pulse, outward as outwardOf, allowed_mode, taken as taken_of, shifted as shiftedOf, shifts as shiftsOf, marked as marked_of, counting as countingOf, clocked, pulsed as pulsedOf, accessed as accessedOf};
-ghost use Rattle.shifter.specs.Closed.{begun as begunOf};
+ghost use Rattle.shifter.specs.Shifter.{by_clock, by_pulse, outward as outward_of, allowed_mode, taken as taken_of, shifted as shifted_of, shifts as shifts_of, marked as marked_of, counting as counting_of, clocked, pulsed as pulsed_of, accessed as accessed_of};
+ghost use Rattle.shifter.specs.Closed.{begun as begun_of};
 
 use clocks::{Forecast, bit, choose8, with_mask};
 
@@ -34,7 +34,7 @@ fn by_pulse(mode: u8) -> bool
 }
 
 fn outward(mode: u8) -> bool
-    ensures { result ≡ outwardOf mode }
+    ensures { result ≡ outward_of mode }
 {
     (mode == 6) | (mode == 7)
 }
@@ -60,7 +60,7 @@ impl Shifter {
 
     // One shift. None to come stand for 8.
     fn shifted(mut self, level: bool) -> Shifter
-        ensures { result ≡ shiftedOf level self }
+        ensures { result ≡ shifted_of level self }
     {
         let enters = self.taken(level);
         let output = self.taken(self.output);
@@ -81,21 +81,21 @@ impl Shifter {
 
     // Whether clocks move it.
     fn counting(self) -> bool
-        ensures { result ≡ countingOf self }
+        ensures { result ≡ counting_of self }
     {
         by_clock(self.mode) & (self.left != 0)
     }
 
     // The clocks that the mark stands for.
     fn begun(self) -> u8
-        ensures { (result ≡ begunOf self.half) × (result ≤ 1) }
+        ensures { (result ≡ begun_of self.half) × (result ≤ 1) }
     {
         choose8(self.half, 1, 0)
     }
 
     // m shifts on end.
     fn shifts(self, m: u8, level: bool) -> Shifter
-        ensures { result ≡ shiftsOf m (λ k. level) self }
+        ensures { result ≡ shifts_of m (λ k. level) self }
     {
         let mut now = self;
         let mut i = 0;
@@ -152,7 +152,7 @@ impl Shifter {
 
     // CB1 rises, or does not; `level` is CB2's after it.
     pub fn pulsed(self, rise: bool, level: bool) -> Shifter
-        ensures { result ≡ pulsedOf rise level self }
+        ensures { result ≡ pulsed_of rise level self }
     {
         if by_pulse(self.mode) & rise {
             self.shifted(level)
@@ -163,7 +163,7 @@ impl Shifter {
 
     // A read or a write, the byte apart.
     pub fn accessed(mut self) -> Shifter
-        ensures { result ≡ accessedOf self }
+        ensures { result ≡ accessed_of self }
     {
         self.flag = false;
         if by_clock(self.mode) | by_pulse(self.mode) {

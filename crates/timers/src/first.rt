@@ -2,8 +2,8 @@
 ghost use Rattle.std.specs.Prelude.{◌≡◌, ℕ, ◌≤◌};
 ghost use Rattle.clocks.specs.Clocks.{after};
 ghost use Rattle.clocks.specs.Forecasts.{comes};
-ghost use Rattle.timers.specs.First.{at as at_of, clocked as clockedOf};
-ghost use Rattle.timers.specs.Closed.{top_of, turned as turnedOf, fallen as fallenOf};
+ghost use Rattle.timers.specs.First.{at as at_of, clocked as clocked_of};
+ghost use Rattle.timers.specs.Closed.{top_of, turned as turned_of, fallen as fallen_of};
 
 use crate::T1;
 use clocks::Forecast;
@@ -31,7 +31,7 @@ impl T1 {
 
     // The passing of zero, and q more.
     fn turned(mut self, q: u32) -> T1
-        ensures { result ≡ turnedOf q self }
+        ensures { result ≡ turned_of q self }
     {
         self.counter = 65535;
         self.mark = true;
@@ -48,7 +48,7 @@ impl T1 {
     // The timer at k counts above zero, no passing between.
     fn fallen(self, k: u32) -> T1
         requires { k ≤ top_of self }
-        ensures { result ≡ fallenOf k self }
+        ensures { result ≡ fallen_of k self }
     {
         if k == self.top() {
             return self;
@@ -57,7 +57,7 @@ impl T1 {
     }
 
     pub fn clock(self) -> T1
-        ensures { result ≡ clockedOf self }
+        ensures { result ≡ clocked_of self }
     {
         if self.mark {
             return self.at(self.latch);
@@ -71,7 +71,7 @@ impl T1 {
 
     // n clocks, in a number of steps that does not grow with n.
     pub fn run(self, n: u32) -> T1
-        ensures { result ≡ after n clockedOf self }
+        ensures { result ≡ after n clocked_of self }
     {
         let top = self.top();
         if n <= top {
@@ -85,7 +85,7 @@ impl T1 {
 
     // When the flag is set.
     pub fn due(self) -> Forecast
-        ensures { (k : ℕ) → (after k clockedOf self).flag ≡ comes result k }
+        ensures { (k : ℕ) → (after k clocked_of self).flag ≡ comes result k }
     {
         if self.flag {
             return Forecast::In(0);

@@ -3,7 +3,7 @@
 
 ghost use Rattle.std.specs.Prelude.{◌≡◌};
 ghost use Rattle.clocks.specs.Clocks.{after};
-ghost use Rattle.timers.specs.Pair.{clocked as clockedPair};
+ghost use Rattle.timers.specs.Pair.{clocked as clocked_pair};
 
 mod first;
 mod second;
@@ -41,7 +41,7 @@ pub struct Timers {
 
 impl Timers {
     pub fn clock(self) -> Timers
-        ensures { result ≡ clockedPair self }
+        ensures { result ≡ clocked_pair self }
     {
         let t1 = self.t1;
         let t2 = self.t2;
@@ -53,7 +53,7 @@ impl Timers {
 
     // n clocks, in a number of steps that does not grow with n.
     pub fn run(self, n: u32) -> Timers
-        ensures { result ≡ after n clockedPair self }
+        ensures { result ≡ after n clocked_pair self }
     {
         let t1 = self.t1;
         let t2 = self.t2;

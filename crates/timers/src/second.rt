@@ -2,7 +2,7 @@
 ghost use Rattle.std.specs.Prelude.{◌≡◌, ℕ};
 ghost use Rattle.clocks.specs.Clocks.{after};
 ghost use Rattle.clocks.specs.Forecasts.{comes};
-ghost use Rattle.timers.specs.Second.{counted as countedOf, clocked as clockedOf, pulsed as pulsedOf};
+ghost use Rattle.timers.specs.Second.{counted as counted_of, clocked as clocked_of, pulsed as pulsed_of};
 
 use crate::T2;
 use clocks::Forecast;
@@ -10,7 +10,7 @@ use clocks::Forecast;
 impl T2 {
     // One count, by a clock or by a pulse on PB6.
     pub fn counted(self) -> T2
-        ensures { result ≡ countedOf self }
+        ensures { result ≡ counted_of self }
     {
         T2 {
             counter: std::num::wrapping_sub_u16(self.counter, 1),
@@ -22,14 +22,14 @@ impl T2 {
     }
 
     pub fn clock(self) -> T2
-        ensures { result ≡ clockedOf self }
+        ensures { result ≡ clocked_of self }
     {
         if self.pulse { self } else { self.counted() }
     }
 
     // A fall of PB6 counts where pulses do.
     pub fn pulsed(self, fall: bool) -> T2
-        ensures { result ≡ pulsedOf fall self }
+        ensures { result ≡ pulsed_of fall self }
     {
         if self.pulse & fall {
             self.counted()
@@ -40,7 +40,7 @@ impl T2 {
 
     // n clocks, in a number of steps that does not grow with n.
     pub fn run(mut self, n: u32) -> T2
-        ensures { result ≡ after n clockedOf self }
+        ensures { result ≡ after n clocked_of self }
     {
         if self.pulse {
             return self;
@@ -58,7 +58,7 @@ impl T2 {
 
     // When the flag is set, with PB6 still.
     pub fn due(self) -> Forecast
-        ensures { (k : ℕ) → (after k clockedOf self).flag ≡ comes result k }
+        ensures { (k : ℕ) → (after k clocked_of self).flag ≡ comes result k }
     {
         if self.flag {
             return Forecast::In(0);

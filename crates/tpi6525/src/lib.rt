@@ -5,7 +5,7 @@ ghost use Rattle.std.specs.Prelude.{◌≡◌, if◌then◌else◌};
 ghost use Rattle.chips.specs.Chips.{answer};
 ghost use Rattle.tpi6525.specs.Record.{well_formed, power_up};
 ghost use Rattle.tpi6525.specs.Access.{register_asks};
-ghost use Rattle.tpi6525.specs.Chip.{chip, accepted as acceptedOf, refused as refusedOf};
+ghost use Rattle.tpi6525.specs.Chip.{chip, accepted as accepted_of, refused as refused_of};
 
 use calls::Call25;
 use clocks::choose8;
@@ -57,7 +57,7 @@ impl Tpi {
     }
 
     fn accepted(self, data: u8) -> Answer
-        ensures { result ≡ acceptedOf «data» self }
+        ensures { result ≡ accepted_of «data» self }
     {
         let irq = self.irq();
         Answer {
@@ -72,7 +72,7 @@ impl Tpi {
     }
 
     fn refused(self, number: u8) -> Answer
-        ensures { result ≡ refusedOf number self }
+        ensures { result ≡ refused_of number self }
     {
         Answer {
             refusal: number,

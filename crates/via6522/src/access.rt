@@ -1,7 +1,7 @@
 // The sixteen registers: which accesses are refused, the byte of each, and what a read and a write leave.
 ghost use Rattle.std.specs.Prelude.{◌≡◌, eqb, if◌then◌else◌};
 ghost use Rattle.via6522.specs.Record.{allowed_acr};
-ghost use Rattle.via6522.specs.Access.{restarted as restartedOf, written, data_of, stored as storedOf, read_asks, write_asks};
+ghost use Rattle.via6522.specs.Access.{restarted as restarted_of, written, data_of, stored as stored_of, read_asks, write_asks};
 
 use crate::{Serial, Via};
 use clocks::choose8;
@@ -29,13 +29,13 @@ pub(crate) fn write_asks(register: u8, value: u8) -> u8
 impl Via {
     // What an access leaves of the shift register.
     fn restarted(self) -> Serial
-        ensures { result ≡ restartedOf self }
+        ensures { result ≡ restarted_of self }
     {
         crate::clock::serial(self.shifter().accessed())
     }
 
     fn sr_written(self, value: u8) -> Serial
-        ensures { result ≡ written value (restartedOf self) }
+        ensures { result ≡ written value (restarted_of self) }
     {
         let mut sr = self.restarted();
         sr.byte = value;
@@ -44,7 +44,7 @@ impl Via {
 
     // What a read leaves of the shift register.
     pub(crate) fn sr_after(self, register: u8) -> Serial
-        ensures { result ≡ (if eqb register 10 then restartedOf self else self.sr) }
+        ensures { result ≡ (if eqb register 10 then restarted_of self else self.sr) }
     {
         if register == 10 {
             self.restarted()
@@ -77,7 +77,7 @@ impl Via {
     }
 
     pub(crate) fn stored(mut self, register: u8, value: u8) -> Via
-        ensures { result ≡ storedOf register value self }
+        ensures { result ≡ stored_of register value self }
     {
         let low = self.t1.latch / 256 * 256 + value as u16;
         let high = value as u16 * 256 + self.t1.latch % 256;

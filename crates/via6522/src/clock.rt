@@ -4,7 +4,7 @@ ghost use Rattle.clocks.specs.Clocks.{after};
 ghost use Rattle.clocks.specs.Forecasts.{comes};
 ghost use Rattle.via6522.specs.Flags.{irq_of};
 ghost use Rattle.via6522.specs.Clock.{timers_of, shifter_of, serial_of, clock_of};
-ghost use Rattle.via6522.specs.Closed.{steady as steadyOf, soonest as soonest_of};
+ghost use Rattle.via6522.specs.Closed.{steady as steady_of, soonest as soonest_of};
 
 use crate::{Serial, Via};
 use clocks::{Forecast, bit, with_mask};
@@ -73,7 +73,7 @@ impl Via {
 
     // Whether a flag that no clock moves asserts the line.
     fn steady(self) -> bool
-        ensures { result ≡ steadyOf self }
+        ensures { result ≡ steady_of self }
     {
         let others = with_mask(32, false, with_mask(4, false, self.ifr));
         clocks::shares(with_mask(64, false, others), self.ier)

@@ -6,7 +6,7 @@ ghost use Rattle.std.specs.Prelude.{◌≡◌, if◌then◌else◌};
 ghost use Rattle.calls.specs.declared.Call22.{Call22};
 ghost use Rattle.chips.specs.Chips.{answer, Foretold};
 ghost use Rattle.via6522.specs.Record.{power_up, well_formed};
-ghost use Rattle.via6522.specs.Chip.{accepted as acceptedOf, refused as refusedOf, chip, clocked, lined, largest_forecast, reading_of};
+ghost use Rattle.via6522.specs.Chip.{accepted as accepted_of, refused as refused_of, chip, clocked, lined, largest_forecast, reading_of};
 
 use clocks::{Forecast, choose8};
 use ports::Port;
@@ -89,7 +89,7 @@ impl Via {
     // The largest forecast: a reload to come, from a full latch.
     pub const LARGEST_FORECAST: u32 = 65537;
 
-    // The constant is the number that Forecast-bound proves.
+    // The constant is the number that ForecastBound proves.
     fn largest() -> u32
         ensures { result ≡ largest_forecast }
     {
@@ -131,7 +131,7 @@ impl Via {
     }
 
     fn accepted(self, data: u8) -> Answer
-        ensures { result ≡ acceptedOf «data» self }
+        ensures { result ≡ accepted_of «data» self }
     {
         let a = self.a;
         Answer {
@@ -145,7 +145,7 @@ impl Via {
     }
 
     fn refused(self, number: u8) -> Answer
-        ensures { result ≡ refusedOf number self }
+        ensures { result ≡ refused_of number self }
     {
         Answer {
             refusal: number,

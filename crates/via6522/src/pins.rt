@@ -1,6 +1,6 @@
 // New levels outside.
 ghost use Rattle.std.specs.Prelude.{◌≡◌};
-ghost use Rattle.via6522.specs.Pins.{pins_asks, pulsed as pulsedOf, shift_pulsed, settled as settled_of};
+ghost use Rattle.via6522.specs.Pins.{pins_asks, pulsed as pulsed_of, shift_pulsed, settled as settled_of};
 
 use crate::Via;
 use clocks::{bit, choose8};
@@ -17,7 +17,7 @@ pub(crate) fn pins_asks(control: u8) -> u8
 impl Via {
     // T2 after a fall of PB6 outside.
     pub(crate) fn pulsed(self, pb: u8) -> T2
-        ensures { result ≡ pulsedOf pb self }
+        ensures { result ≡ pulsed_of pb self }
     {
         let fall = edge(false, bit(6, self.b.outside), bit(6, pb));
         self.second().pulsed(fall)

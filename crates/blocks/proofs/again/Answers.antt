@@ -30,10 +30,8 @@ copied-to-requires c = let i = c.loop-i.invariant.0 in (i.low, i.high)
 pub loop-i-preserved : goal.loop-i-preserved
 loop-i-preserved c =
     let copy = c.copied-to in
-    let at = c in
-    let l = at in
-    let p = l.requires in
-    (repeating_one l.loop-i.invariant.0 _ _ p.0 p.1 at.if-out-to.false copy.ensures, search rules)
+    let p = c.requires in
+    (repeating_one c.loop-i.invariant.0 _ _ p.0 p.1 c.if-out-to.false copy.ensures, search rules)
 
 pub shape_of-out : goal.shape_of-out
 shape_of-out c = c.loop-i.invariant.0.sized

@@ -18,7 +18,7 @@ pub bounds-out-from : goal.bounds-out-from
 bounds-out-from c = let i = c.loop-i.invariant in let s = i.sized in let p = c.requires in omega arith
 
 pub loop-i-preserved : goal.loop-i-preserved
-loop-i-preserved c = let l = c in let p = l.requires in copying_one l.loop-i.invariant p.0 p.1 c.loop-i-test.true c.if-out-to.false
+loop-i-preserved c = let p = c.requires in copying_one c.loop-i.invariant p.0 p.1 c.loop-i-test.true c.if-out-to.false
 
 pub shape_of-out : goal.shape_of-out
 shape_of-out c = c.loop-i.invariant.sized

@@ -14,11 +14,9 @@ again-used-requires c = let p = c.requires in (p.0, p.1)
 pub returns-then-passed-eq0 : goal.returns-then-passed-eq0
 returns-then-passed-eq0 c =
     let copy = c.again-used in
-    let at = c in
-    let free = at.if-out-used.false in
-    let start = at in
-    let zero = at.if-passed-eq0.true in
-    (omega arith, λ o h. copies_on _ _ _ _ _ _ _ o start.requires.2 (h.size free ∙ omega arith) (h.same free zero) copy.ensures)
+    let free = c.if-out-used.false in
+    let zero = c.if-passed-eq0.true in
+    (omega arith, λ o h. copies_on _ _ _ _ _ _ _ o c.requires.2 (h.size free ∙ omega arith) (h.same free zero) copy.ensures)
 
 pub returns-then-noted-gt0 : goal.returns-then-noted-gt0
 returns-then-noted-gt0 c = (omega arith, λ o h. sym (never _ o))
@@ -32,6 +30,5 @@ overflow_sub-skip c = (least_fits _ _ _ _ c.least-q.ensures).1
 pub returns : goal.returns
 returns c =
     let f = least_fits _ _ _ _ c.least-q.ensures in
-    let at = c in
-    let free = at.if-out-used.false in
+    let free = c.if-out-used.false in
     (f.0, λ o h. passes_on _ _ _ _ _ o (h.size free ∙ omega arith) f.1)

@@ -8,32 +8,22 @@ loop-here-init c = passing_start _ _ _ _ c.requires
 
 pub returns-then-depth-eq0 : goal.returns-then-depth-eq0
 returns-then-depth-eq0 c =
-    let tested = c in
-    let loop = tested in
-    passing_shut loop.loop-here.invariant loop.loop-here-test.true (sym tested.closes_at.ensures ∙ c.if-closes_at.true) c.if-depth-eq0.true
+    passing_shut c.loop-here.invariant c.loop-here-test.true (sym c.closes_at.ensures ∙ c.if-closes_at.true) c.if-depth-eq0.true
 
 pub loop-here-preserved-then-closes_at : goal.loop-here-preserved-then-closes_at
 loop-here-preserved-then-closes_at c =
-    let tested = c in
-    let loop = tested in
-    passing_close loop.loop-here.invariant loop.loop-here-test.true (sym tested.closes_at.ensures ∙ c.if-closes_at.true) c.if-depth-eq0.false
+    passing_close c.loop-here.invariant c.loop-here-test.true (sym c.closes_at.ensures ∙ c.if-closes_at.true) c.if-depth-eq0.false
 
 pub overflow_sub-levels : goal.overflow_sub-levels
 overflow_sub-levels c = c.loop-here.invariant.level
 
 pub loop-here-preserved-then-turns_at-lt65536 : goal.loop-here-preserved-then-turns_at-lt65536
 loop-here-preserved-then-turns_at-lt65536 c =
-    let turned = c in
-    let tested = turned in
-    let loop = tested in
-    passing_open loop.loop-here.invariant loop.loop-here-test.true (sym tested.closes_at.ensures ∙ turned.if-closes_at.false) (rw (← turned.turns_at.ensures) c.if-turns_at-lt65536.true)
+    passing_open c.loop-here.invariant c.loop-here-test.true (sym c.closes_at.ensures ∙ c.if-closes_at.false) (rw (← c.turns_at.ensures) c.if-turns_at-lt65536.true)
 
 pub loop-here-preserved : goal.loop-here-preserved
 loop-here-preserved c =
-    let turned = c in
-    let tested = turned in
-    let loop = tested in
-    passing_line loop.loop-here.invariant loop.loop-here-test.true (sym tested.closes_at.ensures ∙ turned.if-closes_at.false) (rw (← turned.turns_at.ensures) c.if-turns_at-lt65536.false)
+    passing_line c.loop-here.invariant c.loop-here-test.true (sym c.closes_at.ensures ∙ c.if-closes_at.false) (rw (← c.turns_at.ensures) c.if-turns_at-lt65536.false)
 
 pub overflow_add-depth : goal.overflow_add-depth
 overflow_add-depth c =

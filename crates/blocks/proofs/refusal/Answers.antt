@@ -9,7 +9,7 @@ pub returns-then-code-gt0 : goal.returns-then-code-gt0
 returns-then-code-gt0 c = not_matched _ _ _ _ c.if-text-gt32768.false c.matched-code.ensures c.if-code-gt0.true
 
 pub returns-then-over : goal.returns-then-over
-returns-then-over c = let code = c in sym (by_lines _ _ _ _ _ code.if-text-gt32768.false code.matched-code.ensures code.if-code-gt0.false c.over.ensures ∙ rw c.if-over.true)
+returns-then-over c = sym (by_lines _ _ _ _ _ c.if-text-gt32768.false c.matched-code.ensures c.if-code-gt0.false c.over.ensures ∙ rw c.if-over.true)
 
 pub returns : goal.returns
-returns c = let code = c in sym (by_lines _ _ _ _ _ code.if-text-gt32768.false code.matched-code.ensures code.if-code-gt0.false c.over.ensures ∙ rw c.if-over.false)
+returns c = sym (by_lines _ _ _ _ _ c.if-text-gt32768.false c.matched-code.ensures c.if-code-gt0.false c.over.ensures ∙ rw c.if-over.false)

@@ -12,16 +12,15 @@ left v r = record { via = v; reply = r }
 
 pub returns : goal.returns
 returns c =
-    let s = c in
     let f = c.forecast-outlook in
     ap₂ left
     (ap (λ (a : Answer). a.via) f.ensures.answered)
     (c.ahead.ensures
-    ∙ ahead22_is s.args.via f.result.forecast f.result.answer
+    ∙ ahead22_is c.args.via f.result.forecast f.result.answer
     (record {
-      latch = omega (arith, s.well_formed.0);
-      counter = omega (arith, s.well_formed.0);
-      low = omega (arith, s.well_formed.0);
-      counter2 = omega (arith, s.well_formed.0);
+      latch = omega (arith, c.well_formed.0);
+      counter = omega (arith, c.well_formed.0);
+      low = omega (arith, c.well_formed.0);
+      counter2 = omega (arith, c.well_formed.0);
     })
     f.ensures)

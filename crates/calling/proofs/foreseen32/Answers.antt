@@ -8,12 +8,11 @@ use Rattle.calling.proofs.foreseen32.Goals as goal
 
 pub returns : goal.returns
 returns c =
-    let s = c in
     let f = c.forecast-outlook in
     λ m.
     record {
       riot = ap (λ (a : Answer). a.riot) (f.ensures m).answered;
       reply =
           c.ahead.ensures
-          ∙ ahead32_is (beside m s.args.io) f.result.forecast (whole m f.result.answer) (omega (arith, s.well_formed.0)) (f.ensures m);
+          ∙ ahead32_is (beside m c.args.io) f.result.forecast (whole m f.result.answer) (omega (arith, c.well_formed.0)) (f.ensures m);
     }

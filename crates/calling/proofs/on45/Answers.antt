@@ -22,5 +22,4 @@ returns-in-Pins c = c.done45-in-Pins.ensures ∙ ap (λ (a : Answer). done45 a) 
 
 pub returns-in-Run : goal.returns-in-Run
 returns-in-Run c =
-    let p = c in
-    c.ran45.ensures ∙ run45 _ _ _ _ _ p.turns45-turns.ensures c.run_either.ensures ∙ rw p.in-Run.is
+    c.ran45.ensures ∙ run45 _ _ _ _ _ c.turns45-turns.ensures c.run_either.ensures ∙ rw c.in-Run.is

@@ -10,5 +10,4 @@ returns-then-letter-lt6 c = (letter_is _ _ c.wrapping_sub_u8-letter.ensures.valu
 
 pub returns : goal.returns
 returns c =
-    let b = c in
-    (no_digit _ _ b.wrapping_sub_u8-digit.ensures.value _ c.wrapping_sub_u8-letter.ensures.value (search rules) (search rules) b.if-digit-lt10.false c.if-letter-lt6.false, search rules)
+    (no_digit _ _ c.wrapping_sub_u8-digit.ensures.value _ c.wrapping_sub_u8-letter.ensures.value (search rules) (search rules) c.if-digit-lt10.false c.if-letter-lt6.false, search rules)

@@ -4,6 +4,5 @@ use Rattle.inputs.proofs.edges.Goals as goal
 
 pub returns : goal.returns
 returns c =
-    let s = c in
     rw (c.merge.ensures, c.gone-2.ensures, c.gone.ensures)
-    (edges_are s.args.cr s.args.old s.args.new (search rules) (search rules))
+    (edges_are c.args.cr c.args.old c.args.new (search rules) (search rules))

@@ -28,8 +28,7 @@ loop-at-smaller c = let w = in_order _ _ _ c.loop-at-test.true c.end_from-end.en
 
 pub loop-at-preserved : goal.loop-at-preserved
 loop-at-preserved c =
-    let l = c in
-    cutting_line l.loop-at.invariant _ _ c.loop-at-test.true c.if-out-used.false c.end_from-end.ensures c.place.ensures
+    cutting_line c.loop-at.invariant _ _ c.loop-at-test.true c.if-out-used.false c.end_from-end.ensures c.place.ensures
 
 pub shape_of-out : goal.shape_of-out
 shape_of-out c = c.loop-at.invariant.sized

@@ -5,9 +5,8 @@ use Rattle.longruns.proofs.Leaps.{counters}
 use Rattle.longruns.proofs.leapt.Goals as goal
 
 pub placed-raster-requires : goal.placed-raster-requires
-placed-raster-requires c = let s = c in counters s.args.raster s.requires
+placed-raster-requires c = counters c.args.raster c.requires
 
 pub returns : goal.returns
 returns c =
-    let s = c in
-    ap (λ (x : Frame). raster s.args.raster.registers (record { column = 0; hsync = 0 }) x) c.placed-raster.ensures
+    ap (λ (x : Frame). raster c.args.raster.registers (record { column = 0; hsync = 0 }) x) c.placed-raster.ensures

@@ -8,37 +8,27 @@ use Rattle.longruns.proofs.run.Goals.{then-far, else-far}
 
 pub overflow_sub-past : goal.overflow_sub-past
 overflow_sub-past c =
-    let i = c in
-    let s = i in
-    let f = far_is s.args.raster s.args.n _ _ i.far.ensures i.if-far.true c.ahead.ensures.0 in
+    let f = far_is c.args.raster c.args.n _ _ c.far.ensures c.if-far.true c.ahead.ensures.0 in
     omega arith
 
 pub overflow_sub-past-then-far : goal.overflow_sub-past-then-far
 overflow_sub-past-then-far c =
-    let i = c in
-    let s = i in
-    let f = far_is s.args.raster s.args.n _ _ i.far.ensures i.if-far.true c.ahead.ensures.0 in
+    let f = far_is c.args.raster c.args.n _ _ c.far.ensures c.if-far.true c.ahead.ensures.0 in
     omega arith
 
 pub overflow_sub-past-then-far-2 : goal.overflow_sub-past-then-far-2
 overflow_sub-past-then-far-2 c =
-    let i = c in
-    let s = i in
-    let f = far_is s.args.raster s.args.n _ _ i.far.ensures i.if-far.true c.ahead.ensures.0 in
+    let f = far_is c.args.raster c.args.n _ _ c.far.ensures c.if-far.true c.ahead.ensures.0 in
     omega arith
 
 pub leapt-raster-requires : goal.leapt-raster-requires
 leapt-raster-requires c =
-    let i = c in
-    let s = i in
-    let f = far_is s.args.raster s.args.n _ _ i.far.ensures i.if-far.true c.ahead.ensures.0 in
+    let f = far_is c.args.raster c.args.n _ _ c.far.ensures c.if-far.true c.ahead.ensures.0 in
     f.well
 
 pub overflow_add-left : goal.overflow_add-left
 overflow_add-left c =
-    let i = c in
-    let s = i in
-    let f = far_is s.args.raster s.args.n _ _ i.far.ensures i.if-far.true c.ahead.ensures.0 in
+    let f = far_is c.args.raster c.args.n _ _ c.far.ensures c.if-far.true c.ahead.ensures.0 in
     omega (arith, rest_small f)
 
 pub returns : goal.returns

@@ -9,5 +9,4 @@ returns-then-n-eq0 c = rw c.if-n-eq0.true
 
 pub returns : goal.returns
 returns c =
-    let s = c in
-    ap (λ (k : ℕ). k + 1) c.ends.ensures ∙ turns_some s.args.n s.args.raster c.if-n-eq0.false
+    ap (λ (k : ℕ). k + 1) c.ends.ensures ∙ turns_some c.args.n c.args.raster c.if-n-eq0.false

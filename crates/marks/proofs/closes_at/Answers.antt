@@ -5,5 +5,4 @@ use Rattle.marks.proofs.closes_at.Goals as goal
 
 pub returns : goal.returns
 returns c =
-    let at = c in
-    c.closes.ensures ∙ ap closes (part_line _ _ _ _ at.end_at-end.ensures at.start_at-start.ensures)
+    c.closes.ensures ∙ ap closes (part_line _ _ _ _ c.end_at-end.ensures c.start_at-start.ensures)

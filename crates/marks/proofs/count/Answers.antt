@@ -13,12 +13,9 @@ returns-then-line-ne70 c = rw (eq-eqb _ _ c.if-line-ne6.false, ne_eqb _ _ c.if-l
 pub returns-then-line-ne48 : goal.returns-then-line-ne48
 unfolding count_of
 returns-then-line-ne48 c =
-    let b = c in
-    rw (eq-eqb _ _ b.if-line-ne6.false, eq-eqb _ _ b.if-line-ne70.false, ne_eqb _ _ c.if-line-ne48.true)
+    rw (eq-eqb _ _ c.if-line-ne6.false, eq-eqb _ _ c.if-line-ne70.false, ne_eqb _ _ c.if-line-ne48.true)
 
 pub returns : goal.returns
 unfolding count_of
 returns c =
-    let third = c in
-    let second = third in
-    rw (eq-eqb _ _ second.if-line-ne6.false, eq-eqb _ _ second.if-line-ne70.false, eq-eqb _ _ third.if-line-ne48.false) c.word.ensures.0
+    rw (eq-eqb _ _ c.if-line-ne6.false, eq-eqb _ _ c.if-line-ne70.false, eq-eqb _ _ c.if-line-ne48.false) c.word.ensures.0

@@ -12,6 +12,5 @@ returns-then-levels-lt1 c = no_level _ _ c.if-levels-lt1.true
 pub returns : goal.returns
 unfolding turns_of
 returns c =
-    let at = c in
-    let some = at.if-levels-lt1.false in
-    rw (lt-ltb 0 at.args.levels (omega arith)) (c.count.ensures ∙ ap count_of (part_line _ _ _ _ at.end_at-end.ensures at.start_at-start.ensures))
+    let some = c.if-levels-lt1.false in
+    rw (lt-ltb 0 c.args.levels (omega arith)) (c.count.ensures ∙ ap count_of (part_line _ _ _ _ c.end_at-end.ensures c.start_at-start.ensures))

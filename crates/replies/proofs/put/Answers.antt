@@ -12,14 +12,12 @@ returns-then-size-at c = record { fits = λ h. absurd (omega arith); full = λ h
 
 pub put_end-requires : goal.put_end-requires
 put_end-requires c =
-    let start = c in
-    omega (arith, told_short start.args.reply)
+    omega (arith, told_short c.args.reply)
 
 pub returns : goal.returns
 unfolding render
 returns c =
-    let d = c in
     record {
-      fits = λ h. then_put d.put_told-end.ensures d.put_end.ensures;
+      fits = λ h. then_put c.put_told-end.ensures c.put_end.ensures;
       full = λ h. absurd (omega arith);
     }

@@ -13,13 +13,12 @@ returns-then-room-at c = record { fits = λ h. absurd (omega arith); full = λ h
 
 pub put_end-requires : goal.put_end-requires
 unfolding told
-put_end-requires c = let start = c in omega (arith, told_short (Refused start.args.number))
+put_end-requires c = omega (arith, told_short (Refused c.args.number))
 
 pub returns : goal.returns
 unfolding told render
 returns c =
-    let d = c in
     record {
-      fits = λ h. then_put d.put_byte-end.ensures d.put_end.ensures;
+      fits = λ h. then_put c.put_byte-end.ensures c.put_end.ensures;
       full = λ h. absurd (omega arith);
     }

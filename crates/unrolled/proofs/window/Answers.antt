@@ -13,4 +13,4 @@ pub slice_bounds-play-end-2 : goal.slice_bounds-play-end-2
 slice_bounds-play-end-2 c = sym (length-take-le _ _ (written_within c.window-lines.ensures))
 
 pub returns : goal.returns
-returns c = let played = c in let noted = played in goes _ _ _ _ _ _ played.play-played.result noted.if-out-places.false noted.window-lines.ensures played.play-played.ensures
+returns c = goes _ _ _ _ _ _ c.play-played.result c.if-out-places.false c.window-lines.ensures c.play-played.ensures

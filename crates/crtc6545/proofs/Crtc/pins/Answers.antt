@@ -10,16 +10,13 @@ use Rattle.crtc6545.proofs.Crtc.pins.Goals as goal
 
 pub returns-then-number-ne0 : goal.returns-then-number-ne0
 returns-then-number-ne0 c =
-    let s = c in
-    let v = s.args.self in
-    let first = c.refusal-number.ensures ∙ ap (λ (k : ℕ). if well_formed v then k else 1) s.choose8.ensures in
+    let v = c.args.self in
+    let first = c.refusal-number.ensures ∙ ap (λ (k : ℕ). if well_formed v then k else 1) c.choose8.ensures in
     c.refused.ensures ∙ sym (refuses chip (Pins _) _ _ first c.if-number-ne0.true)
 
 pub returns : goal.returns
 unfolding pins_of
 returns c =
-    let e = c in
-    let s = e in
-    let v = s.args.self in
-    let first = e.refusal-number.ensures ∙ ap (λ (k : ℕ). if well_formed v then k else 1) s.choose8.ensures in
-    c.accepted.ensures ∙ sym (accepts chip (Pins _) v _ first e.if-number-ne0.false)
+    let v = c.args.self in
+    let first = c.refusal-number.ensures ∙ ap (λ (k : ℕ). if well_formed v then k else 1) c.choose8.ensures in
+    c.accepted.ensures ∙ sym (accepts chip (Pins _) v _ first c.if-number-ne0.false)

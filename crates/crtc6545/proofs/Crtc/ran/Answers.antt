@@ -15,11 +15,9 @@ returns-then-n-eq0 c = rw c.if-n-eq0.true
 pub returns : goal.returns
 unfolding after
 returns c =
-    let p = c in
-    let s = p in
-    let n = s.args.n in
-    let v = s.args.self in
-    let e : suc (n - 1) ≡ n = omega (arith, p.if-n-eq0.false) in
-    let light = c.strobed-self.ensures ∙ ap (λ (x : Signals). strobed x.ma v.light) p.signals-first.ensures in
-    rw (c.clocked-self.ensures, c.signals-signals.ensures, p.run-last.ensures)
+    let n = c.args.n in
+    let v = c.args.self in
+    let e : suc (n - 1) ≡ n = omega (arith, c.if-n-eq0.false) in
+    let light = c.strobed-self.ensures ∙ ap (λ (x : Signals). strobed x.ma v.light) c.signals-first.ensures in
+    rw (c.clocked-self.ensures, c.signals-signals.ensures, c.run-last.ensures)
     (ap (λ (x : Light). moved (n - 1) x v) light ∙ sym (after_moved (n - 1) v) ∙ ap (λ (k : ℕ). after k clock_of v) e)

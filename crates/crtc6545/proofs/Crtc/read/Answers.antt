@@ -10,18 +10,15 @@ use Rattle.crtc6545.proofs.Crtc.read.Goals as goal
 
 pub returns-then-number-ne0 : goal.returns-then-number-ne0
 returns-then-number-ne0 c =
-    let s = c in
-    let v = s.args.self in
-    let first = c.refusal-number.ensures ∙ ap (λ (k : ℕ). if well_formed v then k else 1) s.choose8.ensures in
+    let v = c.args.self in
+    let first = c.refusal-number.ensures ∙ ap (λ (k : ℕ). if well_formed v then k else 1) c.choose8.ensures in
     ap (reading false) c.refused.ensures ∙ sym (reads_none _ v _ first c.if-number-ne0.true)
 
 pub returns : goal.returns
 unfolding read_of
 returns c =
-    let d = c in
-    let s = d in
-    let v = s.args.self in
-    let a = s.args.address in
-    let first = d.refusal-number.ensures ∙ ap (λ (k : ℕ). if well_formed v then k else 1) s.choose8.ensures in
-    ap (reading (undriven_of a v)) (c.accepted.ensures ∙ ap (λ (x : ℕ). accepted x (read_of a v)) d.data-data.ensures)
-    ∙ sym (reads a v _ first d.if-number-ne0.false)
+    let v = c.args.self in
+    let a = c.args.address in
+    let first = c.refusal-number.ensures ∙ ap (λ (k : ℕ). if well_formed v then k else 1) c.choose8.ensures in
+    ap (reading (undriven_of a v)) (c.accepted.ensures ∙ ap (λ (x : ℕ). accepted x (read_of a v)) c.data-data.ensures)
+    ∙ sym (reads a v _ first c.if-number-ne0.false)

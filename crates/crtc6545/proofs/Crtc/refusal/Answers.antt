@@ -9,6 +9,5 @@ use Rattle.crtc6545.proofs.Crtc.refusal.Goals as goal
 pub returns : goal.returns
 unfolding well_formed within
 returns c =
-    let s = c in
     c.choose8.ensures
-    ∙ rw (c.well.ensures, lt-ltb s.args.self.light.r17 256 (omega (arith, s.well_formed)), and-true)
+    ∙ rw (c.well.ensures, lt-ltb c.args.self.light.r17 256 (omega (arith, c.well_formed)), and-true)

@@ -11,7 +11,6 @@ returns-then-number-ne0 c = c.refused.ensures ∙ sym (refuses chip Reset _ _ c.
 pub returns : goal.returns
 unfolding reset_of
 returns c =
-    let s = c in
     c.accepted.ensures
     ∙ ap (accepted 0) (rw c.restarted-self.ensures)
-    ∙ sym (accepts chip Reset _ _ s.refusal-number.ensures c.if-number-ne0.false)
+    ∙ sym (accepts chip Reset _ _ c.refusal-number.ensures c.if-number-ne0.false)

@@ -9,16 +9,14 @@ use Rattle.crtc6545.proofs.Crtc.run_either.Goals as goal
 
 pub returns-then-number-ne0 : goal.returns-then-number-ne0
 returns-then-number-ne0 c =
-    let s = c in
-    let v = s.args.self in
-    let first = c.refusal-number.ensures ∙ ap (λ (k : ℕ). if well_formed v then k else 1) s.choose8.ensures in
+    let v = c.args.self in
+    let first = c.refusal-number.ensures ∙ ap (λ (k : ℕ). if well_formed v then k else 1) c.choose8.ensures in
     c.refused.ensures ∙ sym (refuses chip (Run _ _) _ _ first c.if-number-ne0.true)
 
 pub returns : goal.returns
 returns c =
-    let s = c in
-    let v = s.args.self in
-    let first = c.refusal-number.ensures ∙ ap (λ (k : ℕ). if well_formed v then k else 1) s.choose8.ensures in
+    let v = c.args.self in
+    let first = c.refusal-number.ensures ∙ ap (λ (k : ℕ). if well_formed v then k else 1) c.choose8.ensures in
     c.accepted.ensures
     ∙ ap (accepted 0) c.ran-next.ensures
     ∙ sym (accepts chip (Run _ _) _ _ first c.if-number-ne0.false)

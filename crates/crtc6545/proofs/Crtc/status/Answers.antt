@@ -13,11 +13,10 @@ fits false false = lit< tt
 
 pub overflow_add-result : goal.overflow_add-result
 overflow_add-result c =
-    let s = c in
     record {
       fits =
           rw (c.choose8.ensures, c.choose8-2.ensures)
-          (fits s.args.self.light.full s.signals-signals.result.blanking);
+          (fits c.args.self.light.full c.signals-signals.result.blanking);
     }
 
 pub returns : goal.returns

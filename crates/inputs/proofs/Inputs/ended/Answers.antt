@@ -8,5 +8,4 @@ returns-then-not-bit c = rw (← c.bit.ensures, c.if-not-bit.true)
 pub returns : goal.returns
 unfolding ended
 returns c =
-    let d = c in
-    rw (c.choose8.ensures, c.bit-2.ensures, c.gone-rest.ensures, d.highest.ensures, ← d.bit.ensures, d.if-not-bit.false)
+    rw (c.choose8.ensures, c.bit-2.ensures, c.gone-rest.ensures, c.highest.ensures, ← c.bit.ensures, c.if-not-bit.false)

@@ -9,5 +9,4 @@ returns-then-not-bit c = rw (← c.bit.ensures, c.if-not-bit.true)
 pub returns : goal.returns
 unfolding pinned with_set
 returns c =
-    let d = c in
-    rw (c.edges.ensures, ← d.bit.ensures, d.if-not-bit.false)
+    rw (c.edges.ensures, ← c.bit.ensures, c.if-not-bit.false)

@@ -9,6 +9,5 @@ returns-then-not-bit c = rw (← c.bit.ensures, c.if-not-bit.true)
 pub returns : goal.returns
 unfolding shown
 returns c =
-    let d = c in
     c.choose8.ensures
-    ∙ rw (c.highest.ensures, c.bit-2.ensures, ← d.bit.ensures, d.if-not-bit.false)
+    ∙ rw (c.highest.ensures, c.bit-2.ensures, ← c.bit.ensures, c.if-not-bit.false)

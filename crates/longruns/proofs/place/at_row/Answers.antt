@@ -16,13 +16,11 @@ overflow_sub-rows_after c =
 
 pub overflow_sub-scan : goal.overflow_sub-scan
 overflow_sub-scan c =
-    let p = c in
-    let l = p.lines.ensures in
-    let f = p.rows_left-left.ensures in
+    let l = c.lines.ensures in
+    let f = c.rows_left-left.ensures in
     omega arith
 
 pub returns : goal.returns
 unfolding in_row
 returns c =
-    let p = c in
-    rw (p.row_start-start.ensures, p.rows_after.ensures.0, p.lines.ensures.0, p.rows_left-left.ensures.0)
+    rw (c.row_start-start.ensures, c.rows_after.ensures.0, c.lines.ensures.0, c.rows_left-left.ensures.0)

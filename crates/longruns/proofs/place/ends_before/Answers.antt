@@ -6,15 +6,12 @@ use Rattle.longruns.proofs.place.ends_before.Goals as goal
 pub returns-then-frame : goal.returns-then-frame
 unfolding ends_before
 returns-then-frame c =
-    let s = c in
-    (sym (on_true s.args.frame.adjusting _ _ c.if-frame.true), omega arith)
+    (sym (on_true c.args.frame.adjusting _ _ c.if-frame.true), omega arith)
 
 pub returns : goal.returns
 unfolding ends_before
 returns c =
-    let p = c in
-    let s = p in
-    let b = s.requires in
+    let b = c.requires in
     let l = c.lines.ensures in
     let r = c.rows_after.ensures in
-    (sym (on_false s.args.frame.adjusting _ _ p.if-frame.false ∙ rw (l.0, r.0)), omega arith)
+    (sym (on_false c.args.frame.adjusting _ _ c.if-frame.false ∙ rw (l.0, r.0)), omega arith)

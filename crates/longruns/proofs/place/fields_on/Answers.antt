@@ -4,6 +4,5 @@ use Rattle.longruns.proofs.place.fields_on.Goals as goal
 
 pub returns : goal.returns
 returns c =
-    let s = c in
-    let e : (s.args.frame.field + s.args.frames % 32) % 32 ≡ (s.args.frame.field + s.args.frames) % 32 = omega arith in
-    ap (λ (x : ℕ). with_field x s.args.frame) e
+    let e : (c.args.frame.field + c.args.frames % 32) % 32 ≡ (c.args.frame.field + c.args.frames) % 32 = omega arith in
+    ap (λ (x : ℕ). with_field x c.args.frame) e

@@ -5,9 +5,8 @@ use Rattle.raster.proofs.Frame.adjust_moved.Goals as goal
 pub returns-then-line-registers : goal.returns-then-line-registers
 unfolding adjust_moved
 returns-then-line-registers c =
-    let s = c in
-    let a = s.args in
-    let e = sym s.next-line.ensures ∙ c.if-line-registers.true in
+    let a = c.args in
+    let e = sym c.next-line.ensures ∙ c.if-line-registers.true in
     c.new_frame.ensures ∙ rw (eq-eqb ((a.self.adjust + 1) % 32) a.registers.r5 e)
 
 pub returns : goal.returns

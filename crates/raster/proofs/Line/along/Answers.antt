@@ -6,10 +6,9 @@ use Rattle.raster.proofs.Line.along.Goals as goal
 pub returns : goal.returns
 unfolding along_of
 returns c =
-    let s = c in
-    let l = s.args.self in
-    let r = s.args.registers in
-    let j : s.wrapping_sub_u8-wait.result ≡ gap l.column r.r2 = omega (arith, s.wrapping_sub_u8-wait.ensures.value, s.well_formed) in
+    let l = c.args.self in
+    let r = c.args.registers in
+    let j : c.wrapping_sub_u8-wait.result ≡ gap l.column r.r2 = omega (arith, c.wrapping_sub_u8-wait.ensures.value, c.well_formed) in
     rw (
       c.less-2.ensures,
       c.wrapping_add_u8.ensures.value,

@@ -4,5 +4,4 @@ use Rattle.raster.proofs.Line.clocked.Goals as goal
 pub returns : goal.returns
 unfolding line_clocked
 returns c =
-    let s = c in
-    rw (c.choose8.ensures, c.less.ensures, s.choose8-column.ensures, s.next.ensures)
+    rw (c.choose8.ensures, c.less.ensures, c.choose8-column.ensures, c.next.ensures)

@@ -8,19 +8,16 @@ loop-ahead-init c = (refl, omega (arith, c.wrapping_sub_u8-ahead.ensures.value),
 
 pub loop-ahead-preserved : goal.loop-ahead-preserved
 loop-ahead-preserved c =
-    let p = c in
-    let i = p.loop-ahead in
-    let s = p in
+    let i = c.loop-ahead in
     let t =
-    passed s.args.self.registers (omega (arith, s.well_formed)) (omega (arith, s.well_formed)) i.line i.invariant.2 i.frame i.ahead
+    passed c.args.self.registers (omega (arith, c.well_formed)) (omega (arith, c.well_formed)) i.line i.invariant.2 i.frame i.ahead
     i.left i.invariant.1 (omega arith) _ _ _ c.along-last.ensures c.clocked-line.ensures c.line_ended-frame.ensures in
-    (t.0 ∙ i.invariant.0, omega (arith, s.well_formed), omega arith)
+    (t.0 ∙ i.invariant.0, omega (arith, c.well_formed), omega arith)
 
 pub returns : goal.returns
 returns c =
     let i = c.loop-ahead in
-    let s = c in
-    let r = s.args.self.registers in
+    let r = c.args.self.registers in
     ap (λ (x : Line). raster r x i.frame) c.along-self.ensures
-    ∙ sym (along_after r (omega (arith, s.well_formed)) (omega (arith, s.well_formed)) i.line i.invariant.2 i.frame i.left (omega arith))
+    ∙ sym (along_after r (omega (arith, c.well_formed)) (omega (arith, c.well_formed)) i.line i.invariant.2 i.frame i.left (omega arith))
     ∙ i.invariant.0

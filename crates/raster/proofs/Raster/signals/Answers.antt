@@ -4,5 +4,4 @@ use Rattle.raster.proofs.Raster.signals.Goals as goal
 pub returns : goal.returns
 unfolding signals_of
 returns c =
-    let s = c in
-    rw (c.marked.ensures, s.choose8-ra.ensures, s.ma-ma.ensures)
+    rw (c.marked.ensures, c.choose8-ra.ensures, c.ma-ma.ensures)

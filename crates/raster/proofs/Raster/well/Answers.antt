@@ -6,5 +6,4 @@ use Rattle.raster.proofs.Raster.well.Goals as goal
 pub returns : goal.returns
 unfolding well_raster well_line within
 returns c =
-    let s = c in
-    rw (c.well-2.ensures, c.well.ensures, lt-ltb s.args.self.line.column 256 (omega (arith, s.well_formed)))
+    rw (c.well-2.ensures, c.well.ensures, lt-ltb c.args.self.line.column 256 (omega (arith, c.well_formed)))

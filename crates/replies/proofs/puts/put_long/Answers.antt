@@ -17,8 +17,4 @@ put_byte-requires c = omega arith
 
 pub returns : goal.returns
 returns c =
-    let d = c in
-    let e = d in
-    let f = e in
-    let g = f in
-    then_put (then_put (then_put g.put_byte-a.ensures f.put_byte-b.ensures) e.put_byte-c.ensures) d.put_byte.ensures
+    then_put (then_put (then_put c.put_byte-a.ensures c.put_byte-b.ensures) c.put_byte-c.ensures) c.put_byte.ensures

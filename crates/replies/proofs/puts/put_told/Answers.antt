@@ -23,34 +23,25 @@ put_long-requires c = omega arith
 pub returns-in-Refused : goal.returns-in-Refused
 unfolding told
 returns-in-Refused c =
-    let d = c in
-    rw d.in-Refused.is d.put_byte.ensures
+    rw c.in-Refused.is c.put_byte.ensures
 
 pub returns-in-Done : goal.returns-in-Done
 unfolding told
 returns-in-Done c =
-    let d = c in
-    rw d.in-Done.is d.put_done.ensures
+    rw c.in-Done.is c.put_done.ensures
 
 pub returns-in-Data : goal.returns-in-Data
 unfolding told
 returns-in-Data c =
-    let d = c in
-    let e = d in
-    rw e.in-Data.is (then_put e.put_done-a.ensures d.put_byte-in-Data.ensures)
+    rw c.in-Data.is (then_put c.put_done-a.ensures c.put_byte-in-Data.ensures)
 
 pub returns-in-Read : goal.returns-in-Read
 unfolding told
 returns-in-Read c =
-    let d = c in
-    let e = d in
-    let f = e in
-    rw f.in-Read.is
-    (then_put (then_put f.put_done-a-in-Read.ensures e.put_byte-c.ensures) d.put_byte-in-Read.ensures)
+    rw c.in-Read.is
+    (then_put (then_put c.put_done-a-in-Read.ensures c.put_byte-c.ensures) c.put_byte-in-Read.ensures)
 
 pub returns-in-Number : goal.returns-in-Number
 unfolding told
 returns-in-Number c =
-    let d = c in
-    let e = d in
-    rw e.in-Number.is (then_put e.put_done-a-in-Number.ensures d.put_long.ensures)
+    rw c.in-Number.is (then_put c.put_done-a-in-Number.ensures c.put_long.ensures)

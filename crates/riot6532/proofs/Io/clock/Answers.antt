@@ -15,7 +15,6 @@ returns-then-number-ne0 c = λ m.
 pub returns : goal.returns
 unfolding after
 returns c = λ m.
-    let e = c in
-    let io = e.args.self in
+    let io = c.args.self in
     ap (whole m) (c.accepted.ensures ∙ ap (λ (t : Timer). accepted_io 0 (with_timer t io)) c.clock-self.ensures)
-    ∙ sym (accepts chip (Run 1) (beside m io) _ e.refusal-number.ensures e.if-number-ne0.false)
+    ∙ sym (accepts chip (Run 1) (beside m io) _ c.refusal-number.ensures c.if-number-ne0.false)

@@ -21,11 +21,10 @@ returns-then-number-ne0 c = λ m.
 
 pub returns : goal.returns
 returns c = λ m.
-    let e = c in
-    let io = e.args.self in
-    let fine = accepts_only_well chip Forecast (beside m io) _ e.refusal-number.ensures e.if-number-ne0.false in
+    let io = c.args.self in
+    let fine = accepts_only_well chip Forecast (beside m io) _ c.refusal-number.ensures c.if-number-ne0.false in
     record {
-      answered = ap (whole m) c.accepted.ensures ∙ sym (accepts chip Forecast (beside m io) _ e.refusal-number.ensures e.if-number-ne0.false);
+      answered = ap (whole m) c.accepted.ensures ∙ sym (accepts chip Forecast (beside m io) _ c.refusal-number.ensures c.if-number-ne0.false);
       told = λ w k.
           line_due (beside m io) _ w c.due.ensures k
           ∙ ap (λ (f : Forecasts.Forecast). comes f k) (sym c.soonest.ensures);

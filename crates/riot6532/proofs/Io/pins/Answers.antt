@@ -12,8 +12,6 @@ returns-then-number-ne0 c = λ m.
 
 pub returns : goal.returns
 returns c = λ m.
-    let d = c in
-    let e = d in
-    let a = e.args in
-    ap (whole m) (c.accepted.ensures ∙ rw (d.edge-edge.ensures, d.bit-2.ensures, d.bit.ensures))
-    ∙ sym (accepts chip (Pins a.pa a.pb) (beside m a.self) _ e.refusal-number.ensures e.if-number-ne0.false)
+    let a = c.args in
+    ap (whole m) (c.accepted.ensures ∙ rw (c.edge-edge.ensures, c.bit-2.ensures, c.bit.ensures))
+    ∙ sym (accepts chip (Pins a.pa a.pb) (beside m a.self) _ c.refusal-number.ensures c.if-number-ne0.false)

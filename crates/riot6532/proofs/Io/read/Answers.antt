@@ -26,27 +26,22 @@ returns-then-number-ne0 c =
 pub returns-then-not-bit : goal.returns-then-not-bit
 unfolding data_of read_of reading_of
 returns-then-not-bit c =
-    let d = c in
-    let e = d in
-    let a = e.args in
+    let a = c.args in
     let m = a.ram.now in
     ap₂ reading (sym (gone_none (flags_of a.self))) (ap (whole m) c.accepted.ensures)
     ∙ sym
-    (reading_accepted chip lawful flags reading (Read a.address) (beside m a.self) _ e.refusal-number.ensures e.if-number-ne0.false
-    ∙ rw (← d.bit.ensures, c.if-not-bit.true))
+    (reading_accepted chip lawful flags reading (Read a.address) (beside m a.self) _ c.refusal-number.ensures c.if-number-ne0.false
+    ∙ rw (← c.bit.ensures, c.if-not-bit.true))
 
 pub returns : goal.returns
 unfolding data_of read_of reading_of
 returns c =
-    let s = c in
-    let d = s in
-    let e = d in
-    let a = e.args in
+    let a = c.args in
     let m = a.ram.now in
-    let left = s.after_read-left.ensures in
+    let left = c.after_read-left.ensures in
     ap₂ reading
-    (c.gone.ensures ∙ ap₂ gone s.flags-before.ensures (c.flags-after.ensures ∙ ap flags_of left))
-    (ap (whole m) (c.accepted-2.ensures ∙ ap₂ accepted_io s.data-data.ensures left))
+    (c.gone.ensures ∙ ap₂ gone c.flags-before.ensures (c.flags-after.ensures ∙ ap flags_of left))
+    (ap (whole m) (c.accepted-2.ensures ∙ ap₂ accepted_io c.data-data.ensures left))
     ∙ sym
-    (reading_accepted chip lawful flags reading (Read a.address) (beside m a.self) _ e.refusal-number.ensures e.if-number-ne0.false
-    ∙ rw (← d.bit.ensures, s.if-not-bit.false))
+    (reading_accepted chip lawful flags reading (Read a.address) (beside m a.self) _ c.refusal-number.ensures c.if-number-ne0.false
+    ∙ rw (← c.bit.ensures, c.if-not-bit.false))

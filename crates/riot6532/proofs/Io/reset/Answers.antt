@@ -12,7 +12,5 @@ returns-then-number-ne0 c = λ m.
 
 pub returns : goal.returns
 returns c = λ m.
-    let d = c in
-    let e = d in
-    ap (whole m) (c.accepted.ensures ∙ rw (d.silent-self-2.ensures, d.silent-self.ensures))
-    ∙ sym (accepts chip Reset (beside m e.args.self) _ e.refusal-number.ensures e.if-number-ne0.false)
+    ap (whole m) (c.accepted.ensures ∙ rw (c.silent-self-2.ensures, c.silent-self.ensures))
+    ∙ sym (accepts chip Reset (beside m c.args.self) _ c.refusal-number.ensures c.if-number-ne0.false)

@@ -15,10 +15,9 @@ returns-then-number-ne0 c = λ m.
 
 pub returns : goal.returns
 returns c = λ m.
-    let e = c in
-    let io = e.args.self in
-    let n = e.args.n in
-    let moves = c.run-self.ensures ∙ on_true _ _ _ (accepts_only_well chip (Run n) (beside m io) _ e.refusal-number.ensures e.if-number-ne0.false) in
+    let io = c.args.self in
+    let n = c.args.n in
+    let moves = c.run-self.ensures ∙ on_true _ _ _ (accepts_only_well chip (Run n) (beside m io) _ c.refusal-number.ensures c.if-number-ne0.false) in
     ap (whole m) (c.accepted.ensures ∙ ap (λ (t : Timer). accepted_io 0 (with_timer t io)) moves)
     ∙ ap (accepted 0) (sym (timer_after n (beside m io)))
-    ∙ sym (accepts chip (Run n) (beside m io) _ e.refusal-number.ensures e.if-number-ne0.false)
+    ∙ sym (accepts chip (Run n) (beside m io) _ c.refusal-number.ensures c.if-number-ne0.false)

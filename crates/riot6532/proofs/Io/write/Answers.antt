@@ -15,21 +15,17 @@ returns-then-number-ne0 c =
 pub returns-then-not-bit : goal.returns-then-not-bit
 unfolding write_of
 returns-then-not-bit c =
-    let d = c in
-    let e = d in
-    let a = e.args in
+    let a = c.args in
     ap (whole _) c.accepted.ensures
     ∙ sym
-    (accepts chip (Write a.address a.value) (beside a.ram.now a.self) _ e.refusal-number.ensures e.if-number-ne0.false
-    ∙ rw (← d.bit.ensures, c.if-not-bit.true))
+    (accepts chip (Write a.address a.value) (beside a.ram.now a.self) _ c.refusal-number.ensures c.if-number-ne0.false
+    ∙ rw (← c.bit.ensures, c.if-not-bit.true))
 
 pub returns : goal.returns
 unfolding write_of
 returns c =
-    let d = c in
-    let e = d in
-    let a = e.args in
+    let a = c.args in
     ap (whole a.ram.now) (c.accepted-2.ensures ∙ ap (accepted_io 0) c.written.ensures)
     ∙ sym
-    (accepts chip (Write a.address a.value) (beside a.ram.now a.self) _ e.refusal-number.ensures e.if-number-ne0.false
-    ∙ rw (← d.bit.ensures, c.if-not-bit.false))
+    (accepts chip (Write a.address a.value) (beside a.ram.now a.self) _ c.refusal-number.ensures c.if-number-ne0.false
+    ∙ rw (← c.bit.ensures, c.if-not-bit.false))

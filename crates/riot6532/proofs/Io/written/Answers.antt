@@ -11,12 +11,10 @@ returns-then-not-bit c = c.port_written.ensures ∙ rw (← c.bit.ensures, c.if-
 pub returns-then-bit : goal.returns-then-bit
 unfolding io_written
 returns-then-bit c =
-    let d = c in
-    ap (λ (t : Timer). with_timer t d.args.self) c.load-self.ensures
-    ∙ rw (c.bit-then-bit.ensures, ← d.bit-2.ensures, c.if-bit.true, ← d.bit.ensures, d.if-not-bit.false)
+    ap (λ (t : Timer). with_timer t c.args.self) c.load-self.ensures
+    ∙ rw (c.bit-then-bit.ensures, ← c.bit-2.ensures, c.if-bit.true, ← c.bit.ensures, c.if-not-bit.false)
 
 pub returns : goal.returns
 unfolding io_written
 returns c =
-    let d = c in
-    rw (c.bit-rising.ensures, c.bit-enable.ensures, ← d.bit-2.ensures, c.if-bit.false, ← d.bit.ensures, d.if-not-bit.false)
+    rw (c.bit-rising.ensures, c.bit-enable.ensures, ← c.bit-2.ensures, c.if-bit.false, ← c.bit.ensures, c.if-not-bit.false)

@@ -13,7 +13,6 @@ left r b = record { bench = b; reply = r }
 
 pub returns : goal.returns
 returns c =
-    let s = c in
     ap (left _) c.bench.ensures
     ∙ c.answered-after.ensures
-    ∙ ap (λ (k : Core). step_of (joined s.args.self.riot.ram k) (frame_of s.args.line.now)) c.core-core.ensures
+    ∙ ap (λ (k : Core). step_of (joined c.args.self.riot.ram k) (frame_of c.args.line.now)) c.core-core.ensures

@@ -8,21 +8,18 @@ loop-at-init c = going_start _ _ _
 
 pub returns-then-input-end : goal.returns-then-input-end
 returns-then-input-end c =
-    let l = c in
     rw c.fed.ensures
-    (from_core l.args.self _ l.core-core.ensures
-    (going_end l.loop-at.invariant (c.line_end-end.ensures.missing c.if-input-end.true)))
+    (from_core c.args.self _ c.core-core.ensures
+    (going_end c.loop-at.invariant (c.line_end-end.ensures.missing c.if-input-end.true)))
 
 pub returns-then-out-made-lt13 : goal.returns-then-out-made-lt13
 returns-then-out-made-lt13 c =
-    let l = c in
     rw c.fed-then-out-made-lt13.ensures
-    (from_core l.args.self _ l.core-core.ensures (going_full l.loop-at.invariant c.if-out-made-lt13.true))
+    (from_core c.args.self _ c.core-core.ensures (going_full c.loop-at.invariant c.if-out-made-lt13.true))
 
 pub overflow_add-at : goal.overflow_add-at
 overflow_add-at c =
-    let l = c in
-    omega (arith, c.if-input-end.false, l.well_formed)
+    omega (arith, c.if-input-end.false, c.well_formed)
 
 pub loop-at-preserved : goal.loop-at-preserved
 loop-at-preserved c =
@@ -34,6 +31,5 @@ loop-at-preserved c =
 
 pub returns : goal.returns
 returns c =
-    let l = c in
     rw c.fed-2.ensures
-    (from_core l.args.self _ l.core-core.ensures (going_past _ _ l.loop-at.invariant c.loop-at-test.false))
+    (from_core c.args.self _ c.core-core.ensures (going_past _ _ c.loop-at.invariant c.loop-at-test.false))

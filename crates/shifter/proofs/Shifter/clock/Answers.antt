@@ -9,12 +9,10 @@ returns-then-not-counting c = sym (still _ _ (sym c.counting.ensures ∙ c.if-no
 
 pub returns-then-second : goal.returns-then-second
 returns-then-second c =
-    let asked = c in
-    let on = sym asked.counting.ensures ∙ asked.if-not-counting.false in
+    let on = sym c.counting.ensures ∙ c.if-not-counting.false in
     c.marked.ensures ∙ ap (marked false) c.shifted.ensures ∙ sym (second_clock _ _ on c.if-second.true)
 
 pub returns-else-second : goal.returns-else-second
 returns-else-second c =
-    let asked = c in
-    let on = sym asked.counting.ensures ∙ asked.if-not-counting.false in
+    let on = sym c.counting.ensures ∙ c.if-not-counting.false in
     c.marked-else-second.ensures ∙ sym (first_clock _ _ on c.if-second.false)

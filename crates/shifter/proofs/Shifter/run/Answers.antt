@@ -13,20 +13,18 @@ returns-then-not-counting c = let at = c.args in
 
 pub returns-then-self-clocks : goal.returns-then-self-clocks
 returns-then-self-clocks c =
-    let t = c in
-    let at = t.args in
-    let on : counting at.self ≡ true = sym t.counting.ensures ∙ t.if-not-counting.false in
-    let b = t.begun.ensures.0 in
+    let at = c.args in
+    let on : counting at.self ≡ true = sym c.counting.ensures ∙ c.if-not-counting.false in
+    let b = c.begun.ensures.0 in
     c.marked.ensures
     ∙ ap (marked false) c.shifts.ensures
     ∙ sym (ran_past at.level at.self (moved at.self on).0 (moved at.self on).1 at.n (omega (arith, b)))
 
 pub returns : goal.returns
 returns c =
-    let t = c in
-    let at = t.args in
-    let on : counting at.self ≡ true = sym t.counting.ensures ∙ t.if-not-counting.false in
-    let b = t.begun.ensures.0 in
+    let at = c.args in
+    let on : counting at.self ≡ true = sym c.counting.ensures ∙ c.if-not-counting.false in
+    let b = c.begun.ensures.0 in
     c.marked-2.ensures
     ∙ ap (marked _) c.shifts-2.ensures
     ∙ (λ i. marked (eqb ((at.n + b i) % 2) 1) (shifts ((at.n + b i) / 2) (λ k. at.level) at.self))

@@ -18,8 +18,6 @@ made x n o s = record { byte = x; left = n - 1; half = s.half; output = o; flag 
 pub returns : goal.returns
 unfolding shifted with_bit
 returns c =
-    let count = c in
-    let bits = count in
-    let s = bits.args.self in
-    let byte = c.with_mask.ensures ∙ ap (λ (b : Bool). with_bit 0 b (s.byte % 128 * 2)) bits.taken-enters.ensures in
-    λ i. made (byte i) (count.choose8-left.ensures i) (bits.taken-output.ensures i) s
+    let s = c.args.self in
+    let byte = c.with_mask.ensures ∙ ap (λ (b : Bool). with_bit 0 b (s.byte % 128 * 2)) c.taken-enters.ensures in
+    λ i. made (byte i) (c.choose8-left.ensures i) (c.taken-output.ensures i) s

@@ -9,8 +9,6 @@ returns-then-number-ne0 c = c.refused.ensures ∙ sym (refuses chip (Pins _ _ _)
 
 pub returns : goal.returns
 returns c =
-    let d = c in
-    let e = d in
     c.accepted.ensures
-    ∙ ap (accepted 0) (rw d.pinned-self.ensures)
-    ∙ sym (accepts chip (Pins _ _ _) _ _ e.refusal-number.ensures e.if-number-ne0.false)
+    ∙ ap (accepted 0) (rw c.pinned-self.ensures)
+    ∙ sym (accepts chip (Pins _ _ _) _ _ c.refusal-number.ensures c.if-number-ne0.false)

@@ -15,18 +15,15 @@ returns-then-number-ne0 c = c.refused.ensures ∙ sym (refuses chip (Read _) _ _
 pub returns-then-register-ne-AIR : goal.returns-then-register-ne-AIR
 unfolding read_of
 returns-then-register-ne-AIR c =
-    let d = c in
-    let s = d in
-    let v = s.args.self in
-    let a = s.args.register in
+    let v = c.args.self in
+    let a = c.args.register in
     c.accepted.ensures
-    ∙ ap₂ (λ (x : ℕ) (u : Tpi). accepted x u) d.data-data.ensures (sym (on_false (takes a) _ v (ne_eqb a 7 c.if-register-ne-AIR.true)))
-    ∙ sym (accepts chip (Read _) _ _ d.access_refusal-number.ensures d.if-number-ne0.false)
+    ∙ ap₂ (λ (x : ℕ) (u : Tpi). accepted x u) c.data-data.ensures (sym (on_false (takes a) _ v (ne_eqb a 7 c.if-register-ne-AIR.true)))
+    ∙ sym (accepts chip (Read _) _ _ c.access_refusal-number.ensures c.if-number-ne0.false)
 
 pub returns : goal.returns
 unfolding data_of read_of
 returns c =
-    let d = c in
     c.accepted-2.ensures
-    ∙ (rw (c.taken-self.ensures, d.data-data.ensures, c.if-register-ne-AIR.false))
-    ∙ sym (accepts chip (Read _) _ _ d.access_refusal-number.ensures d.if-number-ne0.false)
+    ∙ (rw (c.taken-self.ensures, c.data-data.ensures, c.if-register-ne-AIR.false))
+    ∙ sym (accepts chip (Read _) _ _ c.access_refusal-number.ensures c.if-number-ne0.false)

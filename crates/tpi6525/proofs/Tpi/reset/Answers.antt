@@ -9,8 +9,6 @@ returns-then-number-ne0 c = c.refused.ensures ∙ sym (refuses chip Reset _ _ c.
 
 pub returns : goal.returns
 returns c =
-    let d = c in
-    let e = d in
     c.accepted.ensures
-    ∙ ap (accepted 0) (rw (c.idle-self.ensures, c.silent-self-3.ensures, c.silent-self-2.ensures, d.silent-self.ensures))
-    ∙ sym (accepts chip Reset _ _ e.refusal-number.ensures e.if-number-ne0.false)
+    ∙ ap (accepted 0) (rw (c.idle-self.ensures, c.silent-self-3.ensures, c.silent-self-2.ensures, c.silent-self.ensures))
+    ∙ sym (accepts chip Reset _ _ c.refusal-number.ensures c.if-number-ne0.false)

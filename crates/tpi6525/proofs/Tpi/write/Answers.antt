@@ -9,7 +9,6 @@ returns-then-number-ne0 c = c.refused.ensures ∙ sym (refuses chip (Write _ _) 
 
 pub returns : goal.returns
 returns c =
-    let d = c in
     c.accepted.ensures
     ∙ ap (accepted 0) c.stored.ensures
-    ∙ sym (accepts chip (Write _ _) _ _ d.access_refusal-number.ensures d.if-number-ne0.false)
+    ∙ sym (accepts chip (Write _ _) _ _ c.access_refusal-number.ensures c.if-number-ne0.false)

@@ -19,22 +19,17 @@ returns-then-number-ne0 c =
 pub returns : goal.returns
 unfolding pins_of with_shifter with_bit
 returns c =
-    let masks = c in
-    let put = masks in
-    let moved = put in
-    let asked = moved in
-    let entry = asked in
-    let v = entry.args.self in
-    let pa = entry.args.pa in
-    let pb = entry.args.pb in
-    let control = entry.args.control in
-    let s = moved.shift_pulsed-s.result in
-    let t = moved.pulsed-t2.result in
-    let first = asked.refusal-number.ensures ∙ ap (λ (k : ℕ). if well_formed v then k else 1) asked.pins_asks.ensures in
+    let v = c.args.self in
+    let pa = c.args.pa in
+    let pb = c.args.pb in
+    let control = c.args.control in
+    let s = c.shift_pulsed-s.result in
+    let t = c.pulsed-t2.result in
+    let first = c.refusal-number.ensures ∙ ap (λ (k : ℕ). if well_formed v then k else 1) c.pins_asks.ensures in
     c.accepted.ensures
     ∙ ap (accepted 0)
     (c.settled.ensures
     ∙ ap (settled pa pb control)
-    ((λ i. with_ifr ((masks.with_mask-2.ensures ∙ ap (with_bit 2 s.flag) masks.with_mask.ensures) i) (with_sr (put.serial-sr.ensures i) (with_pulse t v)))
-    ∙ (λ i. with_shifter (moved.shift_pulsed-s.ensures i) (with_pulse (moved.pulsed-t2.ensures i) v))))
-    ∙ sym (accepts chip (Pins pa pb control) v asked.refusal-number.result first moved.if-number-ne0.false)
+    ((λ i. with_ifr ((c.with_mask-2.ensures ∙ ap (with_bit 2 s.flag) c.with_mask.ensures) i) (with_sr (c.serial-sr.ensures i) (with_pulse t v)))
+    ∙ (λ i. with_shifter (c.shift_pulsed-s.ensures i) (with_pulse (c.pulsed-t2.ensures i) v))))
+    ∙ sym (accepts chip (Pins pa pb control) v c.refusal-number.result first c.if-number-ne0.false)

@@ -19,20 +19,17 @@ reading m r = record { cleared = m; answer = r }
 pub returns-then-number-ne0 : goal.returns-then-number-ne0
 unfolding reading_of
 returns-then-number-ne0 c =
-    let s = c in
-    let v = s.args.self in
-    let first = c.refusal-number.ensures ∙ ap (λ (k : ℕ). if well_formed v then k else 1) s.read_asks.ensures in
-    ap (reading 0) c.refused.ensures ∙ sym (reading_refused chip lawful flags reading (Read s.args.register) v _ first c.if-number-ne0.true)
+    let v = c.args.self in
+    let first = c.refusal-number.ensures ∙ ap (λ (k : ℕ). if well_formed v then k else 1) c.read_asks.ensures in
+    ap (reading 0) c.refused.ensures ∙ sym (reading_refused chip lawful flags reading (Read c.args.register) v _ first c.if-number-ne0.true)
 
 pub returns : goal.returns
 unfolding read_of reading_of
 returns c =
-    let d = c in
-    let s = d in
-    let v = s.args.self in
-    let r = s.args.register in
-    let first = d.refusal-number.ensures ∙ ap (λ (k : ℕ). if well_formed v then k else 1) s.read_asks.ensures in
+    let v = c.args.self in
+    let r = c.args.register in
+    let first = c.refusal-number.ensures ∙ ap (λ (k : ℕ). if well_formed v then k else 1) c.read_asks.ensures in
     let ifr = c.with_mask.ensures ∙ ap (λ (m : ℕ). with_clear m v.ifr) c.read_clears-clears.ensures in
     ap₂ reading (c.gone.ensures ∙ ap (gone v.ifr) ifr)
-    (c.accepted.ensures ∙ ap₂ accepted d.data-data.ensures (λ i. with_sr (c.sr_after-sr.ensures i) (with_ifr (ifr i) v)))
-    ∙ sym (reading_accepted chip lawful flags reading (Read r) v _ first d.if-number-ne0.false)
+    (c.accepted.ensures ∙ ap₂ accepted c.data-data.ensures (λ i. with_sr (c.sr_after-sr.ensures i) (with_ifr (ifr i) v)))
+    ∙ sym (reading_accepted chip lawful flags reading (Read r) v _ first c.if-number-ne0.false)

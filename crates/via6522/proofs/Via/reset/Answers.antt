@@ -13,6 +13,5 @@ returns-then-number-ne0 c =
 pub returns : goal.returns
 unfolding reset_of
 returns c =
-    let first = c in
-    let v = first.args.self in
-    c.accepted.ensures ∙ sym (accepts chip Reset v first.refusal-number.result first.refusal-number.ensures c.if-number-ne0.false)
+    let v = c.args.self in
+    c.accepted.ensures ∙ sym (accepts chip Reset v c.refusal-number.result c.refusal-number.ensures c.if-number-ne0.false)

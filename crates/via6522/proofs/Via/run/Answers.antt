@@ -20,22 +20,17 @@ returns-then-number-ne0 c =
 pub returns : goal.returns
 unfolding with_timers with_shifter with_bit
 returns c =
-    let masks = c in
-    let put = c in
-    let shift = put in
-    let run = shift in
-    let entry = run in
-    let v = entry.args.self in
-    let n = entry.args.n in
-    let p = run.run-p.result in
-    let s = shift.run-s.result in
+    let v = c.args.self in
+    let n = c.args.n in
+    let p = c.run-p.result in
+    let s = c.run-s.result in
     c.accepted.ensures
     ∙ ap (accepted 0)
-    ((λ i. with_ifr (masks.with_mask-2.ensures i) (with_sr (put.serial-sr.ensures i) (with_timers p v)))
+    ((λ i. with_ifr (c.with_mask-2.ensures i) (with_sr (c.serial-sr.ensures i) (with_timers p v)))
     ∙ ap (λ (x : ℕ). with_ifr (with_bit 6 p.t1.flag x) (with_timers p (with_shifter s v)))
-    (masks.with_mask.ensures ∙ ap (with_bit 5 p.t2.flag) masks.with_mask-shifted.ensures)
+    (c.with_mask.ensures ∙ ap (with_bit 5 p.t2.flag) c.with_mask-shifted.ensures)
     ∙ (λ i.
-    with_timers ((run.run-p.ensures ∙ ap (after n Pair.clocked) run.timers.ensures) i)
-    (with_shifter ((shift.run-s.ensures ∙ (λ j. after n (Shift.clocked (shift.bit.ensures j)) (shift.shifter.ensures j))) i) v))
+    with_timers ((c.run-p.ensures ∙ ap (after n Pair.clocked) c.timers.ensures) i)
+    (with_shifter ((c.run-s.ensures ∙ (λ j. after n (Shift.clocked (c.bit.ensures j)) (c.shifter.ensures j))) i) v))
     ∙ sym (parts_after n v))
-    ∙ sym (accepts chip (Run n) v run.refusal-number.result run.refusal-number.ensures run.if-number-ne0.false)
+    ∙ sym (accepts chip (Run n) v c.refusal-number.result c.refusal-number.ensures c.if-number-ne0.false)
