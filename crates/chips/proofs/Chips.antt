@@ -1,82 +1,76 @@
 -- The demands on a chip, proved once from the facts that each chip shows of itself.
-use Rattle.std.specs.Prelude.{if◌then◌else◌}
-use mathlib.Core.Path.{◌≡◌, refl, sym, ap, ap₂, ◌∙◌}
+use Rattle.std.specs.Prelude.{if◌then◌else◌, Option, None, Some}
+use mathlib.Core.Path.{◌≡◌, refl, sym, ap, ap₂, subst, ◌∙◌}
 use mathlib.Core.Bool.{Bool, true, false, true≢false}
 use mathlib.Core.Logic.{◌↔◌}
+use Rattle.clocks.proofs.Options.{none_some, same_some}
 use Prim.Native.Nat.{ℕ, suc, ◌+◌, ◌≤◌}
 use native.Mathlib.Omega.{arith}
-use native.Mathlib.Decide.{ℕ_discrete}
-use lib.Dec.{eqb}
-use borrow.Author.Tests.{eq-eqb, ne_eqb}
 use Rattle.clocks.specs.Clocks.{after}
 use Rattle.clocks.specs.Bits.{gone}
 use Rattle.clocks.specs.Forecasts.{comes, shortened}
 use Rattle.clocks.specs.declared.Forecast.{Forecast}
 use Rattle.clocks.specs.declared.Forecast.TheVariants.{In}
 use Rattle.clocks.proofs.Tests.{on_true, on_false}
+use Rattle.calls.specs.Refusals.{number_of}
+use Rattle.calls.specs.declared.Refusal.{Refusal}
+use Rattle.calls.specs.declared.Refusal.TheVariants.{IllFormed, NoFrame}
 use Rattle.clocks.proofs.Bits.{gone_none}
 use Rattle.clocks.proofs.Clocks.{after_add, after_keeps, run_calls}
 use Rattle.clocks.proofs.Forecasts.{comes_one, told_least, told_never, shortened_comes, AtMost, most_in}
 use Rattle.chips.specs.Chips
-use Rattle.chips.specs.Chips.{Chip, first, answer, next, Reached, at_power_up, by, Answers, Clocked, Runs, Lined, line, Foretold, Lines, KeepsWord, LargestForecast, cleared_by}
+use Rattle.chips.specs.Chips.{Chip, first, answered, answer, next, Reached, at_power_up, by, Answers, Clocked, Runs, Lined, line, Foretold, Lines, KeepsWord, LargestForecast, cleared_by}
 
--- ---- what a number says of the record's test, where 1 is for an ill-formed one and a is what the operands ask for
+-- ---- what the refusal that applies first says of the record's test, where a is what the operands are refused for
 
-pub only_well : (w : Bool) (a k : ℕ) → k ≡ (if w then a else 1) → k ≡ 0 → w ≡ true
+pub only_well : (w : Bool) (a k : Option Refusal) → k ≡ (if w then a else Some IllFormed) → k ≡ None → w ≡ true
 only_well true a k e z = refl
-only_well false a k e z = absurd (omega (arith, z, e))
+only_well false a k e z = absurd (none_some IllFormed (sym z ∙ e))
 
-pub only_ill : (w : Bool) (a k : ℕ) → k ≡ (if w then a else 1) → a ≡ 0 → (k ≡ 0 → ⊥) → w ≡ false
-only_ill true a k e n z = absurd (z (e ∙ n))
-only_ill false a k e n z = refl
+pub only_ill : (w : Bool) (a k : Option Refusal) (r : Refusal) → k ≡ (if w then a else Some IllFormed) → a ≡ None → k ≡ Some r → w ≡ false
+only_ill true a k r e n z = absurd (none_some r (sym (e ∙ n) ∙ z))
+only_ill false a k r e n z = refl
 
--- ---- an answer, where the number that applies first is known
+-- ---- an answer, where the refusal that applies first is known
 
-module _ (C : Chip) (c : C.Call) (v : C.State) (k : ℕ) (e : k ≡ first C c v) where
-  pub accepts : k ≡ 0 → answer C c v ≡ C.accepted (C.gives c v) (C.leaves c v)
+module _ (C : Chip) (c : C.Call) (v : C.State) (k : Option Refusal) (e : k ≡ first C c v) where
+  pub accepts : k ≡ None → answer C c v ≡ C.accepted (C.gives c v) (C.leaves c v)
   unfolding answer
-  accepts z = on_true (eqb (first C c v) 0) _ _ (eq-eqb (first C c v) 0 (sym e ∙ z))
+  accepts z = ap (answered C c v) (sym e ∙ z)
 
-  pub refuses : (k ≡ 0 → ⊥) → answer C c v ≡ C.refused k v
+  pub refuses : (r : Refusal) → k ≡ Some r → answer C c v ≡ C.refused r v
   unfolding answer
-  refuses z =
-      on_false (eqb (first C c v) 0) _ _ (ne_eqb (first C c v) 0 (λ q. z (e ∙ q)))
-      ∙ ap (λ (j : ℕ). C.refused j v) (sym e)
+  refuses r z = ap (answered C c v) (sym e ∙ z)
 
-  -- the record of an accepted call is well formed; a call with no fault in its operands is refused for the record
-  pub accepts_only_well : k ≡ 0 → C.well v ≡ true
+  -- the record of an accepted call is well formed
+  pub accepts_only_well : k ≡ None → C.well v ≡ true
   accepts_only_well z = only_well (C.well v) (C.asks c v) k e z
-
-  pub refuses_only_ill : C.asks c v ≡ 0 → (k ≡ 0 → ⊥) → C.well v ≡ false
-  refuses_only_ill n z = only_ill (C.well v) (C.asks c v) k e n z
 
 -- ---- what a chip shows of itself: where its answers have what they show, what operands are refused with, and that calls keep it well formed
 
--- the numbers of operands: 0, or 3 and above
-abbrev pub Operands : ℕ → Type 0
-Operands n = (n ≡ 0 → ⊥) → 3 ≤ n
-
-pub operands_none : Operands 0
-operands_none z = absurd (z refl)
+-- what operands are refused for: nothing, or what has a number of 3 and above
+abbrev pub Operands : Option Refusal → Type 0
+Operands None = Unit {0}
+Operands (Some r) = 3 ≤ number_of r
 
 pub record Lawful (C : Chip) : Type 0 where
-  pub number_accepted : (d : ℕ) (v : C.State) → C.number (C.accepted d v) ≡ 0
-  pub number_refused : (n : ℕ) (v : C.State) → C.number (C.refused n v) ≡ n
+  pub refusal_accepted : (d : ℕ) (v : C.State) → C.refusal (C.accepted d v) ≡ None
+  pub refusal_refused : (r : Refusal) (v : C.State) → C.refusal (C.refused r v) ≡ Some r
   pub left_accepted : (d : ℕ) (v : C.State) → C.left (C.accepted d v) ≡ v
-  pub left_refused : (n : ℕ) (v : C.State) → C.left (C.refused n v) ≡ v
+  pub left_refused : (r : Refusal) (v : C.State) → C.left (C.refused r v) ≡ v
   pub other : (c : C.Call) (v : C.State) → Operands (C.asks c v)
   pub starts : C.well C.power_up ≡ true
-  pub keeps : (c : C.Call) (v : C.State) → C.Typed c → C.asks c v ≡ 0 → C.well v ≡ true → C.well (C.leaves c v) ≡ true
+  pub keeps : (c : C.Call) (v : C.State) → C.Typed c → C.asks c v ≡ None → C.well v ≡ true → C.well (C.leaves c v) ≡ true
 
 module _ (C : Chip) (S : Lawful C) where
   pub refuses_ill : Chips.RefusesIll C
-  refuses_ill c v w = refuses C c v 1 (sym (on_false (C.well v) (C.asks c v) 1 w)) (λ z. omega (arith, z))
+  refuses_ill c v w = refuses C c v (first C c v) refl IllFormed (on_false (C.well v) (C.asks c v) (Some IllFormed) w)
 
   operands_first : (c : C.Call) (v : C.State) → C.well v ≡ true → C.asks c v ≡ first C c v
-  operands_first c v w = sym (on_true (C.well v) (C.asks c v) 1 w)
+  operands_first c v w = sym (on_true (C.well v) (C.asks c v) (Some IllFormed) w)
 
   pub refuses_operands : Chips.RefusesOperands C
-  refuses_operands c v w z = refuses C c v (C.asks c v) (operands_first c v w) z
+  refuses_operands c v r w z = refuses C c v (C.asks c v) (operands_first c v w) r z
 
   pub accepts_well : Chips.AcceptsWell C
   accepts_well c v w z = accepts C c v (C.asks c v) (operands_first c v w) z
@@ -84,46 +78,59 @@ module _ (C : Chip) (S : Lawful C) where
   -- there are three kinds of answer; a property that each of them has, the answer has
   module _ (c : C.Call) (v : C.State) (P : C.Answer → Type 0) where
     pub by_refusal :
-        (C.well v ≡ false → P (C.refused 1 v))
-        → (C.well v ≡ true → (C.asks c v ≡ 0 → ⊥) → P (C.refused (C.asks c v) v))
-        → (C.well v ≡ true → C.asks c v ≡ 0 → P (C.accepted (C.gives c v) (C.leaves c v)))
+        (C.well v ≡ false → P (C.refused IllFormed v))
+        → ((r : Refusal) → C.well v ≡ true → C.asks c v ≡ Some r → P (C.refused r v))
+        → (C.well v ≡ true → C.asks c v ≡ None → P (C.accepted (C.gives c v) (C.leaves c v)))
         → P (answer C c v)
-    by_refusal ill operands fine = go (C.well v) refl (ℕ_discrete (C.asks c v) 0)
+    by_refusal ill operands fine = go (C.well v) refl (C.asks c v) refl
       where
-        go : (b : Bool) → C.well v ≡ b → Dec (C.asks c v ≡ 0) → P (answer C c v)
-        go false w d = rw (refuses_ill c v w) (ill w)
-        go true w (yes e) = rw (accepts_well c v w e) (fine w e)
-        go true w (no e) = rw (refuses_operands c v w e) (operands w e)
+        go : (b : Bool) → C.well v ≡ b → (k : Option Refusal) → C.asks c v ≡ k → P (answer C c v)
+        go false w k e = rw (refuses_ill c v w) (ill w)
+        go true w None e = rw (accepts_well c v w e) (fine w e)
+        go true w (Some r) e = rw (refuses_operands c v r w e) (operands r w e)
+
+  -- what operands are refused for has no number below 3, and an answer has no other than its own
+  other_number : (c : C.Call) (v : C.State) (r : Refusal) → C.asks c v ≡ Some r → 3 ≤ number_of r
+  other_number c v r e = subst Operands e (S.other c v)
+
+  shown : (v : C.State) (r q : Refusal) → C.refusal (C.refused r v) ≡ Some q → number_of r ≡ number_of q
+  shown v r q e = ap number_of (same_some r q (sym (S.refusal_refused r v) ∙ e))
+
+  accepted_shows_none : (d : ℕ) (v : C.State) (r : Refusal) → C.refusal (C.accepted d v) ≡ Some r → ⊥
+  accepted_shows_none d v r e = none_some r (sym (S.refusal_accepted d v) ∙ e)
+
+  pub refused_shows : (v : C.State) (r : Refusal) → C.refusal (C.refused r v) ≡ None → ⊥
+  refused_shows v r e = none_some r (sym e ∙ S.refusal_refused r v)
 
   one_only_ill : Chips.OneOnlyIll C
   one_only_ill c v =
-      by_refusal c v (λ r. C.number r ≡ 1 → C.well v ≡ false)
+      by_refusal c v (λ r. C.refusal r ≡ Some IllFormed → C.well v ≡ false)
       (λ w e. w)
-      (λ w z e. absurd (omega (arith, S.other c v z, sym (S.number_refused (C.asks c v) v) ∙ e)))
-      (λ w z e. absurd (omega (arith, sym (S.number_accepted (C.gives c v) (C.leaves c v)) ∙ e)))
+      (λ r w z e. absurd (omega (arith, other_number c v r z, shown v r IllFormed e)))
+      (λ w z e. absurd (accepted_shows_none _ _ IllFormed e))
 
   never_2 : Chips.Never2 C
   never_2 c v =
-      by_refusal c v (λ r. C.number r ≡ 2 → ⊥)
-      (λ w e. omega (arith, sym (S.number_refused 1 v) ∙ e))
-      (λ w z e. omega (arith, S.other c v z, sym (S.number_refused (C.asks c v) v) ∙ e))
-      (λ w z e. omega (arith, sym (S.number_accepted (C.gives c v) (C.leaves c v)) ∙ e))
+      by_refusal c v (λ r. C.refusal r ≡ Some NoFrame → ⊥)
+      (λ w e. omega (arith, shown v IllFormed NoFrame e))
+      (λ r w z e. omega (arith, other_number c v r z, shown v r NoFrame e))
+      (λ w z e. accepted_shows_none _ _ NoFrame e)
 
   refused_leaves : Chips.RefusedLeaves C
-  refused_leaves c v =
-      by_refusal c v (λ r. (C.number r ≡ 0 → ⊥) → r ≡ C.refused (C.number r) v)
-      (λ w z. ap (λ (k : ℕ). C.refused k v) (sym (S.number_refused 1 v)))
-      (λ w n z. ap (λ (k : ℕ). C.refused k v) (sym (S.number_refused (C.asks c v) v)))
-      (λ w n z. absurd (z (S.number_accepted (C.gives c v) (C.leaves c v))))
+  refused_leaves c v r =
+      by_refusal c v (λ a. C.refusal a ≡ Some r → a ≡ C.refused r v)
+      (λ w e. ap (λ (q : Refusal). C.refused q v) (same_some IllFormed r (sym (S.refusal_refused IllFormed v) ∙ e)))
+      (λ q w n e. ap (λ (q : Refusal). C.refused q v) (same_some q r (sym (S.refusal_refused q v) ∙ e)))
+      (λ w n e. absurd (accepted_shows_none _ _ r e))
 
   -- an invariant of the accepted calls is one of all calls, and so holds in every reached record
   module _ (P : C.State → Type 0)
-      (keeps : (c : C.Call) (v : C.State) → C.Typed c → C.asks c v ≡ 0 → C.well v ≡ true → P v → P (C.leaves c v)) where
+      (keeps : (c : C.Call) (v : C.State) → C.Typed c → C.asks c v ≡ None → C.well v ≡ true → P v → P (C.leaves c v)) where
     pub call_keeps : (c : C.Call) (v : C.State) → C.Typed c → P v → P (next C c v)
     call_keeps c v t p =
         by_refusal c v (λ r. P (C.left r))
-        (λ w. rw (S.left_refused 1 v) p)
-        (λ w n. rw (S.left_refused (C.asks c v) v) p)
+        (λ w. rw (S.left_refused IllFormed v) p)
+        (λ r w n. rw (S.left_refused r v) p)
         (λ w n. rw (S.left_accepted (C.gives c v) (C.leaves c v)) (keeps c v t n w p))
 
     pub reached_keeps : P C.power_up → (v : C.State) → Reached C v → P v
@@ -132,9 +139,9 @@ module _ (C : Chip) (S : Lawful C) where
 
   keeps_well : Chips.KeepsWell C
   keeps_well c v t =
-      by_refusal c v (λ r. C.number r ≡ 0 → C.well (C.left r) ≡ true)
-      (λ w z. absurd (omega (arith, sym (S.number_refused 1 v) ∙ z)))
-      (λ w n z. absurd (n (sym (S.number_refused (C.asks c v) v) ∙ z)))
+      by_refusal c v (λ r. C.refusal r ≡ None → C.well (C.left r) ≡ true)
+      (λ w z. absurd (refused_shows v IllFormed z))
+      (λ r w n z. absurd (refused_shows v r z))
       (λ w n z. rw (S.left_accepted (C.gives c v) (C.leaves c v)) (S.keeps c v t n w))
 
   pub reached_well : Chips.ReachedWell C
@@ -156,12 +163,12 @@ module _ (C : Chip) (S : Lawful C) where
 
   -- an ill-formed record comes back from every call
   pub ill_leaves : (c : C.Call) (v : C.State) → C.well v ≡ false → next C c v ≡ v
-  ill_leaves c v w = ap C.left (refuses_ill c v w) ∙ S.left_refused 1 v
+  ill_leaves c v w = ap C.left (refuses_ill c v w) ∙ S.left_refused IllFormed v
 
 -- ---- and of its clock: runs up to the longest are accepted, read nothing and are so many turns of the rule; 1 is not too long
 pub record Ticks (C : Chip) (T : Clocked C) : Type 0 where
   pub one : 1 ≤ T.longest
-  pub run_asks_lem : (n : ℕ) (v : C.State) → n ≤ T.longest → C.asks (T.run n) v ≡ 0
+  pub run_asks_lem : (n : ℕ) (v : C.State) → n ≤ T.longest → C.asks (T.run n) v ≡ None
   pub run_gives : (n : ℕ) (v : C.State) → C.gives (T.run n) v ≡ 0
   pub run_leaves : (n : ℕ) (v : C.State) → C.leaves (T.run n) v ≡ after n T.rule v
   pub keeps : (v : C.State) → C.well v ≡ true → C.well (T.rule v) ≡ true
@@ -215,7 +222,7 @@ module _ (C : Chip) (S : Lawful C) (T : Clocked C) (K : Ticks C T) where
   unfolding after
   run_of_none v = go (C.well v) refl
     where
-      go : (t : Bool) → C.well v ≡ t → answer C (T.run 0) v ≡ (if C.well v then C.accepted 0 v else C.refused 1 v)
+      go : (t : Bool) → C.well v ≡ t → answer C (T.run 0) v ≡ (if C.well v then C.accepted 0 v else C.refused IllFormed v)
       go true w = run_well_shows 0 v (omega arith) w ∙ sym (on_true (C.well v) _ _ w)
       go false w = refuses_ill C S (T.run 0) v w ∙ sym (on_false (C.well v) _ _ w)
 
@@ -246,16 +253,16 @@ pub record Watched (C : Chip) (T : Clocked C) (L : Lined C) : Type 1 where
   pub tells : (v : C.State) → C.well v ≡ true → (k : ℕ) → line C T L k v ≡ comes (ahead v) k
   pub Kept : C.State → Type 0
   pub kept_first : Kept C.power_up
-  pub kept_next : (c : C.Call) (v : C.State) → C.Typed c → C.asks c v ≡ 0 → C.well v ≡ true → Kept v → Kept (C.leaves c v)
+  pub kept_next : (c : C.Call) (v : C.State) → C.Typed c → C.asks c v ≡ None → C.well v ≡ true → Kept v → Kept (C.leaves c v)
   pub most : (v : C.State) → C.well v ≡ true → Kept v → AtMost L.largest (ahead v)
   pub farthest : (v : C.State) × Reached C v × (ahead v ≡ In L.largest)
 
 module _ (C : Chip) (S : Lawful C) (T : Clocked C) (K : Ticks C T) (L : Lined C) (W : Watched C T L) where
   line_exact : Chips.LineExact C T L
   line_exact c v t reached =
-      by_refusal C S c v (λ r. C.number r ≡ 0 → (L.asserted r ≡ true) ↔ L.Raised (C.left r))
-      (λ w z. absurd (omega (arith, sym (S.number_refused 1 v) ∙ z)))
-      (λ w n z. absurd (n (sym (S.number_refused (C.asks c v) v) ∙ z)))
+      by_refusal C S c v (λ r. C.refusal r ≡ None → (L.asserted r ≡ true) ↔ L.Raised (C.left r))
+      (λ w z. absurd (refused_shows C S v IllFormed z))
+      (λ r w n z. absurd (refused_shows C S v r z))
       (λ w n z. rw (W.shows (C.gives c v) (C.leaves c v), S.left_accepted (C.gives c v) (C.leaves c v))
       (W.exact (C.leaves c v) (S.keeps c v t n w)))
 
@@ -274,8 +281,8 @@ module _ (C : Chip) (S : Lawful C) (T : Clocked C) (K : Ticks C T) (L : Lined C)
   forecast_leaves v f r t =
       ap C.left t.answered
       ∙ by_refusal C S L.forecast v (λ r. C.left r ≡ v)
-      (λ w. S.left_refused 1 v)
-      (λ w n. S.left_refused (C.asks L.forecast v) v)
+      (λ w. S.left_refused IllFormed v)
+      (λ r w n. S.left_refused r v)
       (λ w n. S.left_accepted (C.gives L.forecast v) (C.leaves L.forecast v) ∙ W.leaves v)
 
   pub lines : Lines C T L
@@ -362,13 +369,13 @@ module _ (C : Chip) (S : Lawful C) (flags : C.State → ℕ) where
   pub kept_clears : (c : C.Call) (v : C.State) → next C c v ≡ v → cleared_by C flags c v ≡ 0
   kept_clears c v e = ap (λ (u : C.State). gone (flags v) (flags u)) e ∙ gone_none (flags v)
 
-  pub refused_clears : (c : C.Call) (v : C.State) → (C.number (answer C c v) ≡ 0 → ⊥) → cleared_by C flags c v ≡ 0
-  refused_clears c v z = kept_clears c v (ap C.left (refused_leaves C S c v z) ∙ S.left_refused (C.number (answer C c v)) v)
+  pub refused_clears : (c : C.Call) (v : C.State) (r : Refusal) → C.refusal (answer C c v) ≡ Some r → cleared_by C flags c v ≡ 0
+  refused_clears c v r z = kept_clears c v (ap C.left (refused_leaves C S c v r z) ∙ S.left_refused r v)
 
-  -- a read that tells mask and answer, where the number that applies first is known
-  module _ {R : Type 0} (reading : ℕ → C.Answer → R) (c : C.Call) (v : C.State) (k : ℕ) (e : k ≡ first C c v) where
+  -- a read that tells mask and answer, where the refusal that applies first is known
+  module _ {R : Type 0} (reading : ℕ → C.Answer → R) (c : C.Call) (v : C.State) (k : Option Refusal) (e : k ≡ first C c v) where
     pub reading_accepted :
-        k ≡ 0
+        k ≡ None
         → reading (cleared_by C flags c v) (answer C c v)
         ≡ reading (gone (flags v) (flags (C.leaves c v))) (C.accepted (C.gives c v) (C.leaves c v))
     reading_accepted z =
@@ -377,7 +384,7 @@ module _ (C : Chip) (S : Lawful C) (flags : C.State → ℕ) where
         (ap (λ (u : C.State). gone (flags v) (flags u)) (ap C.left a ∙ S.left_accepted (C.gives c v) (C.leaves c v)))
         a
 
-    pub reading_refused : (k ≡ 0 → ⊥) → reading (cleared_by C flags c v) (answer C c v) ≡ reading 0 (C.refused k v)
-    reading_refused z =
-        let r = refuses C c v k e z in
-        ap₂ reading (kept_clears c v (ap C.left r ∙ S.left_refused k v)) r
+    pub reading_refused : (r : Refusal) → k ≡ Some r → reading (cleared_by C flags c v) (answer C c v) ≡ reading 0 (C.refused r v)
+    reading_refused r z =
+        let q = refuses C c v k e r z in
+        ap₂ reading (kept_clears c v (ap C.left q ∙ S.left_refused r v)) q

@@ -1,18 +1,20 @@
 -- One theory for all chips of the bench: what makes a chip, its answer to a call, the records that can come up, and the demands on them.
 -- Each chip's specs/Chip.antt fills in Chip and Clocked, and where there is a forecast Lined; its specs/Demands.antt asks for Answers and Runs
 -- of them, and then for Lines, KeepsWord and LargestForecast.
-use Rattle.std.specs.Prelude.{◌≡◌, Bool, true, false, ◌↔◌, ℕ, suc, ◌+◌, ◌-◌, ◌<◌, ◌≤◌, eqb, if◌then◌else◌}
+use Rattle.std.specs.Prelude.{◌≡◌, Bool, true, false, ◌↔◌, ℕ, suc, ◌+◌, ◌-◌, ◌<◌, ◌≤◌, if◌then◌else◌, Option, None, Some}
 use Rattle.clocks.specs.Clocks.{after}
 use Rattle.clocks.specs.Bits.{gone}
 use Rattle.clocks.specs.Forecasts.{comes, shortened}
 use Rattle.clocks.specs.declared.Forecast.{Forecast}
 use Rattle.clocks.specs.declared.Forecast.TheVariants.{Never, In}
+use Rattle.calls.specs.declared.Refusal.{Refusal}
+use Rattle.calls.specs.declared.Refusal.TheVariants.{IllFormed, NoFrame}
 
 -- ---- a chip and its answers
 
 -- a chip: its records; its answers; its calls, and which operands are values of their types; power-up; which records are well formed;
--- the number that a call's operands are refused with (0: they are not), its byte and the next record; what an
--- accepted and a refused call show; and where an answer has its refusal's number and its record
+-- what a call's operands are refused for, its byte and the next record; what an accepted and a refused call show; and where an answer has
+-- its refusal and its record. What a refusal's number is, `calls` says
 pub record Chip : Type 1 where
   pub State : Type 0
   pub Answer : Type 0
@@ -20,21 +22,25 @@ pub record Chip : Type 1 where
   pub Typed : Call → Type 0
   pub power_up : State
   pub well : State → Bool
-  pub asks : Call → State → ℕ
+  pub asks : Call → State → Option Refusal
   pub gives : Call → State → ℕ
   pub leaves : Call → State → State
   pub accepted : ℕ → State → Answer
-  pub refused : ℕ → State → Answer
-  pub number : Answer → ℕ
+  pub refused : Refusal → State → Answer
+  pub refusal : Answer → Option Refusal
   pub left : Answer → State
 
--- document 01's order: refusal 1, for an ill-formed record, precedes the operands' own; 0 means accepted
-abbrev pub first : (C : Chip) → C.Call → C.State → ℕ
-first C c v = if C.well v then C.asks c v else 1
+-- document 01's order: refusal 1, for an ill-formed record, precedes the operands' own
+abbrev pub first : (C : Chip) → C.Call → C.State → Option Refusal
+first C c v = if C.well v then C.asks c v else Some IllFormed
 
--- the answer to a call
+-- the answer to a call, given what it is refused for
+abbrev pub answered : (C : Chip) → C.Call → C.State → Option Refusal → C.Answer
+answered C c v None = C.accepted (C.gives c v) (C.leaves c v)
+answered C c v (Some r) = C.refused r v
+
 unfoldable pub answer : (C : Chip) → C.Call → C.State → C.Answer
-answer C c v = if eqb (first C c v) 0 then C.accepted (C.gives c v) (C.leaves c v) else C.refused (first C c v) v
+answer C c v = answered C c v (first C c v)
 
 -- the record after a call
 abbrev pub next : (C : Chip) → C.Call → C.State → C.State
@@ -50,35 +56,35 @@ pub data Reached (C : Chip) : C.State → Type 0 where
 module _ (C : Chip) where
   -- refusal 1 goes to ill-formed records, for every call, and to them alone
   abbrev pub RefusesIll : Type 0
-  RefusesIll = (c : C.Call) (v : C.State) → C.well v ≡ false → answer C c v ≡ C.refused 1 v
+  RefusesIll = (c : C.Call) (v : C.State) → C.well v ≡ false → answer C c v ≡ C.refused IllFormed v
 
   abbrev pub OneOnlyIll : Type 0
-  OneOnlyIll = (c : C.Call) (v : C.State) → C.number (answer C c v) ≡ 1 → C.well v ≡ false
+  OneOnlyIll = (c : C.Call) (v : C.State) → C.refusal (answer C c v) ≡ Some IllFormed → C.well v ≡ false
 
   -- 2 is not a chip's to give: it is for a line of a session that is no call
   abbrev pub Never2 : Type 0
-  Never2 = (c : C.Call) (v : C.State) → C.number (answer C c v) ≡ 2 → ⊥
+  Never2 = (c : C.Call) (v : C.State) → C.refusal (answer C c v) ≡ Some NoFrame → ⊥
 
-  -- a well-formed one is refused with the number of the operands, and accepted where they have none
+  -- a well-formed one is refused for what the operands are refused for, and accepted where they are not
   abbrev pub RefusesOperands : Type 0
   RefusesOperands =
-      (c : C.Call) (v : C.State) → C.well v ≡ true → (C.asks c v ≡ 0 → ⊥) → answer C c v ≡ C.refused (C.asks c v) v
+      (c : C.Call) (v : C.State) (r : Refusal) → C.well v ≡ true → C.asks c v ≡ Some r → answer C c v ≡ C.refused r v
 
   abbrev pub AcceptsWell : Type 0
   AcceptsWell =
-      (c : C.Call) (v : C.State) → C.well v ≡ true → C.asks c v ≡ 0 → answer C c v ≡ C.accepted (C.gives c v) (C.leaves c v)
+      (c : C.Call) (v : C.State) → C.well v ≡ true → C.asks c v ≡ None → answer C c v ≡ C.accepted (C.gives c v) (C.leaves c v)
 
-  -- a refused call shows its number and nothing else, and hands the record back
+  -- a refused call shows its refusal and nothing else, and hands the record back
   abbrev pub RefusedLeaves : Type 0
   RefusedLeaves =
-      (c : C.Call) (v : C.State) → (C.number (answer C c v) ≡ 0 → ⊥) → answer C c v ≡ C.refused (C.number (answer C c v)) v
+      (c : C.Call) (v : C.State) (r : Refusal) → C.refusal (answer C c v) ≡ Some r → answer C c v ≡ C.refused r v
 
   -- power-up is well formed, an accepted call leaves a well-formed record, and so does every list of calls
   abbrev pub PowerUpWell : Type 0
   PowerUpWell = C.well C.power_up ≡ true
 
   abbrev pub KeepsWell : Type 0
-  KeepsWell = (c : C.Call) (v : C.State) → C.Typed c → C.number (answer C c v) ≡ 0 → C.well (next C c v) ≡ true
+  KeepsWell = (c : C.Call) (v : C.State) → C.Typed c → C.refusal (answer C c v) ≡ None → C.well (next C c v) ≡ true
 
   abbrev pub ReachedWell : Type 0
   ReachedWell = (v : C.State) → Reached C v → C.well v ≡ true
@@ -122,7 +128,7 @@ module _ (C : Chip) (T : Clocked C) where
       (n : ℕ) (v : C.State) → suc n ≤ T.longest → answer C (T.run (suc n)) v ≡ answer C (T.run 1) (after n (next C (T.run 1)) v)
 
   abbrev pub RunOfNone : Type 0
-  RunOfNone = (v : C.State) → answer C (T.run 0) v ≡ (if C.well v then C.accepted 0 v else C.refused 1 v)
+  RunOfNone = (v : C.State) → answer C (T.run 0) v ≡ (if C.well v then C.accepted 0 v else C.refused IllFormed v)
 
   -- a clocks and then b leave what a + b leave, and the last answer shows the same lines
   abbrev pub RunsAdd : Type 0
@@ -166,7 +172,7 @@ module _ (C : Chip) (T : Clocked C) (L : Lined C) where
 
   abbrev pub LineExact : Type 0
   LineExact =
-      (c : C.Call) (v : C.State) → C.Typed c → Reached C v → C.number (answer C c v) ≡ 0
+      (c : C.Call) (v : C.State) → C.Typed c → Reached C v → C.refusal (answer C c v) ≡ None
       → (L.asserted (answer C c v) ≡ true) ↔ L.Raised (next C c v)
 
   -- the forecast is the least number of clocks, 0 included, after which the line is asserted; never exactly when no number would do

@@ -5,3 +5,4 @@ pub mod Turns
 pub mod Bits
 pub mod Ranges
 pub mod Lists
+pub mod Options

@@ -5,11 +5,12 @@ ghost use Rattle.std.specs.Prelude.{◌≡◌, if◌then◌else◌};
 ghost use Rattle.clocks.specs.Forecasts.{number_of, sooner_of};
 ghost use Rattle.clocks.specs.Bits.{bit as bit_of, with_set, with_clear, gone as gone_of, merge as merge_of, shares as shares_of};
 
-// When a flag is set or a line asserted: so many clocks from now, or never.
-#[derive(Clone, Copy)]
+// When a flag is set or a line asserted: so many clocks from now, or never. No Option, since README's examples and what `snippets` prints
+// have these names.
+#[derive(Clone, Copy, Debug, PartialEq, Eq, PartialOrd, Ord)]
 pub enum Forecast {
-    Never,
     In(u32),
+    Never,
 }
 
 impl Forecast {
@@ -29,24 +30,18 @@ impl Forecast {
     pub fn gated(self, through: bool) -> Forecast
         ensures { result ≡ (if through then self else Forecast.Never) }
     {
-        if through { self } else { Forecast::Never }
+        choose(through, self, Forecast::Never)
     }
 
     pub fn sooner(self, other: Forecast) -> Forecast
         ensures { result ≡ sooner_of self other }
     {
-        match self {
-            Forecast::Never => other,
-            Forecast::In(x) => match other {
-                Forecast::Never => self,
-                Forecast::In(y) => { if x <= y { self } else { other } }
-            },
-        }
+        self.min(other)
     }
 }
 
-// The first number where the test holds, else the second.
-pub fn choose8(test: bool, x: u8, y: u8) -> u8
+// The first where the test holds, else the second.
+pub fn choose<T: Copy>(test: bool, x: T, y: T) -> T
     ensures { result ≡ (if test then x else y) }
 {
     if test { x } else { y }
@@ -66,7 +61,7 @@ pub fn merge(mask: u8, x: u8, y: u8) -> u8
     (x & mask) | (y & !mask)
 }
 
-// x with the bits of the mask set, or cleared.
+// x with the bits of the mask set, or cleared, as a bit of a register says.
 pub fn with_mask(mask: u8, on: bool, x: u8) -> u8
     ensures { result ≡ (if on then with_set mask x else with_clear mask x) }
 {

@@ -1,7 +1,7 @@
 -- The statements of specs/Demands.antt, proved.
 use Rattle.std.specs.Prelude.{if◌then◌else◌}
-use mathlib.Core.Path.{◌≡◌, refl, sym, ap, ◌∙◌}
-use mathlib.Core.Bool.{Bool, true, false, not, ◌&&◌, ◌||◌, or-true, or-false, and-true, and-false}
+use mathlib.Core.Path.{◌≡◌, sym, ap, ◌∙◌}
+use mathlib.Core.Bool.{Bool, true, false, not, ◌&&◌, ◌||◌, or-false, and-true, and-false}
 use Prim.Native.Nat.{ℕ, ◌%◌, ◌^◌, ◌<◌, zero-le}
 use native.Mathlib.Omega.{arith}
 use lib.Dec.{eqb, lit<}
@@ -9,7 +9,8 @@ use lib.Bits.{or_lt, and_mask}
 use Rattle.clocks.specs.Bits.{bit, with_set, with_clear}
 use Rattle.clocks.proofs.Tests.{picked}
 use Rattle.clocks.proofs.Bits.{bit_and_lem, bit_not, bit_high, bit_set, bit_clear, bit_power, bit_with}
-use Rattle.flags.specs.Flags.{set, edge_ca1, edge_ca2, edge_cb1, edge_cb2, raised, interrupt, shown, enabled}
+use Rattle.flags.specs.Flags.{set, edge1, edge2, raised, interrupt, shown, enabled}
+use Rattle.flags.specs.declared.Side.TheVariants.{A, B}
 use Rattle.flags.specs.Demands
 
 -- ---- seven bits
@@ -27,10 +28,10 @@ edge_seven m e x h l = picked (λ (y : ℕ). y < 128) e (set_seven m x h l) l
 pub raised_seven : Demands.RaisedSeven
 unfolding raised
 raised_seven pcr old new ifr l =
-    edge_seven 1 (edge_ca2 pcr old new) _ (lit< tt)
-    (edge_seven 2 (edge_ca1 pcr old new) _ (lit< tt)
-    (edge_seven 8 (edge_cb2 pcr old new) _ (lit< tt)
-    (edge_seven 16 (edge_cb1 pcr old new) ifr (lit< tt) l)))
+    edge_seven 1 (edge2 A pcr old new) _ (lit< tt)
+    (edge_seven 2 (edge1 A pcr old new) _ (lit< tt)
+    (edge_seven 8 (edge2 B pcr old new) _ (lit< tt)
+    (edge_seven 16 (edge1 B pcr old new) ifr (lit< tt) l)))
 
 pub enabled_seven : Demands.EnabledSeven
 unfolding enabled
@@ -44,22 +45,18 @@ bit_edge k false j x = sym (ap (λ (q : Bool). bit j x || q) (and-false (eqb j k
 
 -- in the order of the lines, not of the edges
 turned : (x a b c d : Bool) → ((((x || d) || c) || b) || a) ≡ (x || (a || (b || (c || d))))
-turned true a b c d = refl
-turned false true b c d = or-true (d || c || b)
-turned false false true c d = or-false (d || c || true) ∙ or-true (d || c)
-turned false false false true d = or-false (d || true || false) ∙ or-false (d || true) ∙ or-true d
-turned false false false false d = or-false (d || false || false) ∙ or-false (d || false) ∙ or-false d
+turned x a b c d = grind arith
 
 pub raised_by_bit : Demands.RaisedByBit
 unfolding raised
 raised_by_bit k pcr old new ifr =
-    bit_edge 0 (edge_ca2 pcr old new) k _
-    ∙ ap (λ (q : Bool). q || eqb k 0 && edge_ca2 pcr old new)
-    (bit_edge 1 (edge_ca1 pcr old new) k _
-    ∙ ap (λ (q : Bool). q || eqb k 1 && edge_ca1 pcr old new)
-    (bit_edge 3 (edge_cb2 pcr old new) k _
-    ∙ ap (λ (q : Bool). q || eqb k 3 && edge_cb2 pcr old new) (bit_edge 4 (edge_cb1 pcr old new) k ifr)))
-    ∙ turned (bit k ifr) (eqb k 0 && edge_ca2 pcr old new) (eqb k 1 && edge_ca1 pcr old new) (eqb k 3 && edge_cb2 pcr old new) (eqb k 4 && edge_cb1 pcr old new)
+    bit_edge 0 (edge2 A pcr old new) k _
+    ∙ ap (λ (q : Bool). q || eqb k 0 && edge2 A pcr old new)
+    (bit_edge 1 (edge1 A pcr old new) k _
+    ∙ ap (λ (q : Bool). q || eqb k 1 && edge1 A pcr old new)
+    (bit_edge 3 (edge2 B pcr old new) k _
+    ∙ ap (λ (q : Bool). q || eqb k 3 && edge2 B pcr old new) (bit_edge 4 (edge1 B pcr old new) k ifr)))
+    ∙ turned (bit k ifr) (eqb k 0 && edge2 A pcr old new) (eqb k 1 && edge1 A pcr old new) (eqb k 3 && edge2 B pcr old new) (eqb k 4 && edge1 B pcr old new)
 
 pub shown_by_bit : Demands.ShownByBit
 unfolding shown
@@ -80,13 +77,11 @@ enabled_by_bit k x ier h = go (bit 7 x) ∙ ap (λ (q : Bool). if q then bit 7 x
     named : Bool
     named = bit k (x % 128)
 
-    chosen : (q : Bool) (b : Bool) → (q || b) ≡ (if b then true else q)
-    chosen q true = or-true q
-    chosen q false = or-false q
+    chosen : (q b : Bool) → (q || b) ≡ (if b then true else q)
+    chosen q b = grind arith
 
-    left : (q : Bool) (b : Bool) → (q && not b) ≡ (if b then false else q)
-    left q true = and-false q
-    left q false = and-true q
+    left : (q b : Bool) → (q && not b) ≡ (if b then false else q)
+    left q b = grind arith
 
     go : (b : Bool) → bit k (if b then with_set (x % 128) ier else with_clear (x % 128) ier) ≡ (if named then b else bit k ier)
     go true = bit_set k (x % 128) ier ∙ chosen (bit k ier) named

@@ -1,7 +1,8 @@
 -- What demand 2 asks of the flags beyond the promises. proofs/Demands.antt has a proof of each statement, under its name in small letters.
 use Rattle.std.specs.Prelude.{◌≡◌, Bool, ◌&&◌, ◌||◌, ℕ, ◌<◌, eqb, if◌then◌else◌}
 use Rattle.clocks.specs.Bits.{bit, with_clear}
-use Rattle.flags.specs.Flags.{edge_ca1, edge_ca2, edge_cb1, edge_cb2, raised, interrupt, shown, enabled}
+use Rattle.flags.specs.Flags.{edge1, edge2, raised, interrupt, shown, enabled}
+use Rattle.flags.specs.declared.Side.TheVariants.{A, B}
 
 -- seven flags and seven enables stay seven, whatever sets or clears them
 abbrev pub RaisedSeven : Type 0
@@ -16,8 +17,8 @@ EnabledSeven = (x ier : ℕ) → ier < 128 → enabled x ier < 128
 -- flag k is set by the edge of its own line and by no other
 abbrev pub edge_at : ℕ → ℕ → ℕ → ℕ → Bool
 edge_at k pcr old new =
-    eqb k 0 && edge_ca2 pcr old new
-    || (eqb k 1 && edge_ca1 pcr old new || (eqb k 3 && edge_cb2 pcr old new || eqb k 4 && edge_cb1 pcr old new))
+    eqb k 0 && edge2 A pcr old new
+    || (eqb k 1 && edge1 A pcr old new || (eqb k 3 && edge2 B pcr old new || eqb k 4 && edge1 B pcr old new))
 
 abbrev pub RaisedByBit : Type 0
 RaisedByBit = (k pcr old new ifr : ℕ) → bit k (raised pcr old new ifr) ≡ (bit k ifr || edge_at k pcr old new)

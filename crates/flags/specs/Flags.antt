@@ -3,56 +3,54 @@
 use Rattle.std.specs.Prelude.{Bool, not, ◌&&◌, ◌||◌, ℕ, ◌/◌, ◌%◌, eqb, ltb, if◌then◌else◌}
 use Rattle.clocks.specs.Bits.{bit, with_set, with_clear, with_bit, shares}
 use Rattle.ports.specs.Ports.{edge}
+use Rattle.flags.specs.declared.Side.{Side}
+use Rattle.flags.specs.declared.Side.TheVariants.{A, B}
+
+-- a number of port A and its lines CA1 and CA2, and one of port B and its lines CB1 and CB2
+abbrev pub of_side : Side → ℕ → ℕ → ℕ
+of_side A x y = x
+of_side B x y = y
 
 -- ---- PCR
 
 -- PCR has a code of three bits for CA2 and one for CB2
-abbrev pub code_a : ℕ → ℕ
-code_a pcr = pcr / 2 % 8
-
-abbrev pub code_b : ℕ → ℕ
-code_b pcr = pcr / 32 % 8
+abbrev pub code : Side → ℕ → ℕ
+code s pcr = pcr / of_side s 2 32 % 8
 
 -- codes 4 and 5, handshake and pulse outputs, are left out of this bench
 abbrev pub allowed_code : ℕ → Bool
 allowed_code code = not (eqb code 4) && not (eqb code 5)
 
 abbrev pub allowed_pcr : ℕ → Bool
-allowed_pcr pcr = allowed_code (code_a pcr) && allowed_code (code_b pcr)
+allowed_pcr pcr = allowed_code (code A pcr) && allowed_code (code B pcr)
 
 -- ---- edges of the control lines, from the old levels to the new
 
+-- an edge of CA1 or CB1: PCR has a bit for each, 1 for a rise
+abbrev pub edge1 : Side → ℕ → ℕ → ℕ → Bool
+edge1 s pcr old new = edge (bit (of_side s 0 4) pcr) (bit (of_side s 0 2) old) (bit (of_side s 0 2) new)
+
 -- an edge of CA2 or CB2: codes 0 and 1 see a fall, 2 and 3 a rise, the output codes nothing
-abbrev pub edge2 : ℕ → Bool → Bool → Bool
-edge2 code old new = ltb code 4 && edge (ltb 1 code) old new
-
-abbrev pub edge_ca1 : ℕ → ℕ → ℕ → Bool
-edge_ca1 pcr old new = edge (bit 0 pcr) (bit 0 old) (bit 0 new)
-
-abbrev pub edge_ca2 : ℕ → ℕ → ℕ → Bool
-edge_ca2 pcr old new = edge2 (code_a pcr) (bit 1 old) (bit 1 new)
-
-abbrev pub edge_cb1 : ℕ → ℕ → ℕ → Bool
-edge_cb1 pcr old new = edge (bit 4 pcr) (bit 2 old) (bit 2 new)
-
-abbrev pub edge_cb2 : ℕ → ℕ → ℕ → Bool
-edge_cb2 pcr old new = edge2 (code_b pcr) (bit 3 old) (bit 3 new)
+abbrev pub edge2 : Side → ℕ → ℕ → ℕ → Bool
+edge2 s pcr old new =
+    ltb (code s pcr) 4 && edge (ltb 1 (code s pcr)) (bit (of_side s 1 3) old) (bit (of_side s 1 3) new)
 
 -- an edge sets its flag
 abbrev pub set : ℕ → Bool → ℕ → ℕ
 set m edge ifr = if edge then with_set m ifr else ifr
 
--- IFR after the edges: the masks of CA2, CA1, CB2 and CB1 are 1, 2, 8 and 16
+-- IFR after the edges of a port's lines: the masks of CA1 and CA2 are 2 and 1, those of CB1 and CB2 are 16 and 8
+abbrev pub raised_at : Side → ℕ → ℕ → ℕ → ℕ → ℕ
+raised_at s pcr old new ifr =
+    set (of_side s 1 8) (edge2 s pcr old new) (set (of_side s 2 16) (edge1 s pcr old new) ifr)
+
+-- and of all four
 unfoldable pub raised : ℕ → ℕ → ℕ → ℕ → ℕ
-raised pcr old new ifr =
-    set 1 (edge_ca2 pcr old new) (set 2 (edge_ca1 pcr old new) (set 8 (edge_cb2 pcr old new) (set 16 (edge_cb1 pcr old new) ifr)))
+raised pcr old new ifr = raised_at A pcr old new (raised_at B pcr old new ifr)
 
--- whether CA1's edge takes IFR1 from 0 to 1, and CB1's edge IFR4: then the port's new lines are kept
-unfoldable pub keeps_a : ℕ → ℕ → ℕ → ℕ → Bool
-keeps_a pcr old new ifr = edge_ca1 pcr old new && not (bit 1 ifr)
-
-unfoldable pub keeps_b : ℕ → ℕ → ℕ → ℕ → Bool
-keeps_b pcr old new ifr = edge_cb1 pcr old new && not (bit 4 ifr)
+-- whether CA1's edge takes IFR1 from 0 to 1, or CB1's edge IFR4: then the port's new lines are kept
+unfoldable pub keeps : Side → ℕ → ℕ → ℕ → ℕ → Bool
+keeps s pcr old new ifr = edge1 s pcr old new && not (bit (of_side s 1 4) ifr)
 
 -- ---- flags that an access clears
 
@@ -60,17 +58,14 @@ keeps_b pcr old new ifr = edge_cb1 pcr old new && not (bit 4 ifr)
 abbrev pub independent : ℕ → Bool
 independent code = eqb code 1 || eqb code 3
 
--- an access to port A clears IFR1 (mask 2), and IFR0 with it (3) unless CA2 is independent
-abbrev pub flags_a : ℕ → ℕ
-flags_a pcr = if independent (code_a pcr) then 2 else 3
-
--- an access to port B clears IFR4 (mask 16), and IFR3 with it (24) unless CB2 is independent
-abbrev pub flags_b : ℕ → ℕ
-flags_b pcr = if independent (code_b pcr) then 16 else 24
+-- an access to port A clears IFR1 (mask 2), and IFR0 with it (3) unless CA2 is independent; one to port B clears IFR4 (16), and IFR3 with
+-- it (24) unless CB2 is
+abbrev pub side_clears : Side → ℕ → ℕ
+side_clears s pcr = if independent (code s pcr) then of_side s 2 16 else of_side s 3 24
 
 -- any access to a port clears its flags, and any access to SR clears IFR2 (4)
 unfoldable pub access_clears : ℕ → ℕ → ℕ
-access_clears r pcr = if eqb r 0 then flags_b pcr else (if eqb r 1 then flags_a pcr else (if eqb r 10 then 4 else 0))
+access_clears r pcr = if eqb r 0 then side_clears B pcr else (if eqb r 1 then side_clears A pcr else (if eqb r 10 then 4 else 0))
 
 -- besides, a read of T1's low counter clears IFR6 (64), and one of T2's low counter IFR5 (32)
 unfoldable pub read_clears : ℕ → ℕ → ℕ

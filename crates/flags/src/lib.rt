@@ -1,13 +1,103 @@
 // The flags of the 6522: what sets, clears, enables and shows them. IFR and IER have a flag and its enable in each of seven bits: 0 CA2,
 // 1 CA1, 2 SR, 3 CB2, 4 CB1, 5 T2, 6 T1. Control levels are in bits 0 to 3: CA1, CA2, CB1, CB2.
-#![tactic(auto)]
+#![tactic(auto, unfolding(crate::specs::Flags::raised, crate::specs::Flags::keeps, crate::specs::Flags::access_clears, crate::specs::Flags::read_clears, crate::specs::Flags::write_clears, crate::specs::Flags::shown, crate::specs::Flags::enabled, clocks::specs::Bits::with_bit))]
 
 ghost use Rattle.std.specs.Prelude.{◌≡◌};
-ghost use Rattle.flags.specs.Flags.{allowed_code, allowed_pcr, edge2 as edge2_of, edge_ca1, edge_ca2, edge_cb1, edge_cb2, set as set_of, raised as raised_of, keeps_a, keeps_b, independent as independent_of, flags_a, flags_b, access_clears, read_clears, write_clears, shown as shown_of, enabled as enabled_of};
+ghost use Rattle.clocks.specs.Bits.{bit as bit_of};
+ghost use Rattle.ports.specs.Ports.{edge as edge_of};
+ghost use Rattle.flags.specs.Flags.{of_side, code as code_of, allowed_code, allowed_pcr, edge1, edge2, set as set_of, raised_at, raised as raised_of, keeps as keeps_of, independent as independent_of, side_clears, access_clears, read_clears, write_clears, shown as shown_of, enabled as enabled_of};
 
-use clocks::{bit, choose8, with_mask};
+use clocks::{bit, choose, with_mask};
 use ports::edge;
 
+// A port with its two control lines: CA1 and CA2, or CB1 and CB2.
+#[derive(Clone, Copy)]
+pub enum Side {
+    A,
+    B,
+}
+
+impl Side {
+    fn pick(self, a: u8, b: u8) -> u8
+        ensures { result ≡ of_side self a b }
+    {
+        match self {
+            Side::A => a,
+            Side::B => b,
+        }
+    }
+
+    // PCR's code for line 2.
+    fn code(self, pcr: u8) -> u8
+        ensures { result ≡ code_of self pcr }
+    {
+        pcr / self.pick(2, 32) % 8
+    }
+
+    // The flags that an access to the port clears.
+    fn clears(self, pcr: u8) -> u8
+        ensures { result ≡ side_clears self pcr }
+    {
+        let alone = independent(self.code(pcr));
+        choose(alone, self.pick(2, 16), self.pick(3, 24))
+    }
+}
+
+// New control levels after old ones, and PCR, which says which of them are edges.
+#[derive(Clone, Copy)]
+pub struct Edges {
+    pub pcr: u8,
+    pub old: u8,
+    pub new: u8,
+}
+
+impl Edges {
+    // Whether the level k made an edge.
+    fn on(self, k: u8, rising: bool) -> bool
+        ensures { result ≡ edge_of rising (bit_of k self.old) (bit_of k self.new) }
+    {
+        edge(rising, bit(k, self.old), bit(k, self.new))
+    }
+
+    fn line1(self, side: Side) -> bool
+        ensures { result ≡ edge1 side self.pcr self.old self.new }
+    {
+        let rising = bit(side.pick(0, 4), self.pcr);
+        self.on(side.pick(0, 2), rising)
+    }
+
+    // The output codes see none.
+    fn line2(self, side: Side) -> bool
+        ensures { result ≡ edge2 side self.pcr self.old self.new }
+    {
+        let code = side.code(self.pcr);
+        (code < 4) & self.on(side.pick(1, 3), 1 < code)
+    }
+
+    // IFR after the edges of one side.
+    fn raised_at(self, side: Side, ifr: u8) -> u8
+        ensures { result ≡ raised_at side self.pcr self.old self.new ifr }
+    {
+        let first = set(side.pick(2, 16), self.line1(side), ifr);
+        set(side.pick(1, 8), self.line2(side), first)
+    }
+
+    // IFR after the edges of the four control lines.
+    pub fn raised(self, ifr: u8) -> u8
+        ensures { result ≡ raised_of self.pcr self.old self.new ifr }
+    {
+        self.raised_at(Side::A, self.raised_at(Side::B, ifr))
+    }
+
+    // Whether the port's new lines are kept.
+    pub fn keeps(self, side: Side, ifr: u8) -> bool
+        ensures { result ≡ keeps_of side self.pcr self.old self.new ifr }
+    {
+        self.line1(side) & !bit(side.pick(1, 4), ifr)
+    }
+}
+
+// A code stays the three bits that PCR has: any byte may be written there.
 fn allowed_code(code: u8) -> bool
     ensures { result ≡ allowed_code code }
 {
@@ -18,85 +108,20 @@ fn allowed_code(code: u8) -> bool
 pub fn allowed_pcr(pcr: u8) -> bool
     ensures { result ≡ allowed_pcr pcr }
 {
-    allowed_code(pcr / 2 % 8) & allowed_code(pcr / 32 % 8)
-}
-
-// An edge of CA2 or CB2. The output codes see none.
-fn edge2(code: u8, old: bool, new: bool) -> bool
-    ensures { result ≡ edge2_of code old new }
-{
-    (code < 4) & edge(1 < code, old, new)
-}
-
-fn edge_ca1(pcr: u8, old: u8, new: u8) -> bool
-    ensures { result ≡ edge_ca1 pcr old new }
-{
-    edge(bit(0, pcr), bit(0, old), bit(0, new))
-}
-
-fn edge_ca2(pcr: u8, old: u8, new: u8) -> bool
-    ensures { result ≡ edge_ca2 pcr old new }
-{
-    edge2(pcr / 2 % 8, bit(1, old), bit(1, new))
-}
-
-fn edge_cb1(pcr: u8, old: u8, new: u8) -> bool
-    ensures { result ≡ edge_cb1 pcr old new }
-{
-    edge(bit(4, pcr), bit(2, old), bit(2, new))
-}
-
-fn edge_cb2(pcr: u8, old: u8, new: u8) -> bool
-    ensures { result ≡ edge_cb2 pcr old new }
-{
-    edge2(pcr / 32 % 8, bit(3, old), bit(3, new))
+    allowed_code(Side::A.code(pcr)) & allowed_code(Side::B.code(pcr))
 }
 
 fn set(mask: u8, edge: bool, ifr: u8) -> u8
     ensures { result ≡ set_of mask edge ifr }
 {
-    choose8(edge, with_mask(mask, true, ifr), ifr)
+    choose(edge, with_mask(mask, true, ifr), ifr)
 }
 
-// IFR after the edges of the four control lines.
-pub fn raised(pcr: u8, old: u8, new: u8, ifr: u8) -> u8
-    ensures { result ≡ raised_of pcr old new ifr }
-{
-    let cb1 = set(16, edge_cb1(pcr, old, new), ifr);
-    let cb2 = set(8, edge_cb2(pcr, old, new), cb1);
-    let ca1 = set(2, edge_ca1(pcr, old, new), cb2);
-    set(1, edge_ca2(pcr, old, new), ca1)
-}
-
-// Whether the new lines of port A are kept.
-pub fn keeps_a(pcr: u8, old: u8, new: u8, ifr: u8) -> bool
-    ensures { result ≡ keeps_a pcr old new ifr }
-{
-    edge_ca1(pcr, old, new) & !bit(1, ifr)
-}
-
-pub fn keeps_b(pcr: u8, old: u8, new: u8, ifr: u8) -> bool
-    ensures { result ≡ keeps_b pcr old new ifr }
-{
-    edge_cb1(pcr, old, new) & !bit(4, ifr)
-}
-
+// Whether a code keeps line 2's flag apart from the port.
 fn independent(code: u8) -> bool
     ensures { result ≡ independent_of code }
 {
     (code == 1) | (code == 3)
-}
-
-fn flags_a(pcr: u8) -> u8
-    ensures { result ≡ flags_a pcr }
-{
-    choose8(independent(pcr / 2 % 8), 2, 3)
-}
-
-fn flags_b(pcr: u8) -> u8
-    ensures { result ≡ flags_b pcr }
-{
-    choose8(independent(pcr / 32 % 8), 16, 24)
 }
 
 // The flags that any access clears.
@@ -104,8 +129,8 @@ fn access_clears(register: u8, pcr: u8) -> u8
     ensures { result ≡ access_clears register pcr }
 {
     match register {
-        0 => flags_b(pcr),
-        1 => flags_a(pcr),
+        0 => Side::B.clears(pcr),
+        1 => Side::A.clears(pcr),
         10 => 4,
         _ => 0,
     }

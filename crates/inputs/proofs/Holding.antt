@@ -1,12 +1,13 @@
 -- The interrupt as the code tests it: by numbers, where the definition goes by the highest in service.
 use Rattle.std.specs.Prelude.{if◌then◌else◌}
-use mathlib.Core.Path.{◌≡◌, refl, ap}
+use mathlib.Core.Path.{◌≡◌}
 use mathlib.Core.Bool.{Bool, true, false, not, ◌&&◌}
 use Prim.Native.Nat.{ℕ, ◌%◌, ◌<◌}
 use native.Mathlib.Omega.{arith}
 use lib.Dec.{eqb, ltb, leb}
 use lib.Bits.{and_le_l}
 use borrow.Author.Tests.{le-ltb}
+use Rattle.std.proofs.lemmas.Bool.Decides.{nat_tests}
 use Rattle.inputs.specs.Inputs.{interrupts, priority, highest_of, unmasked, shown, asserted}
 use Rattle.inputs.specs.declared.Inputs.{Inputs}
 use Rattle.inputs.proofs.Top.{below_highest}
@@ -28,8 +29,4 @@ module _ (cr mask : ℕ) (v : Inputs) where
   pub without_priority :
       priority cr ≡ false → (not (eqb (shown cr mask v) 0) && eqb v.service 0) ≡ asserted cr mask v
   unfolding asserted
-  without_priority p = rw p (ap (λ (b : Bool). not (eqb (shown cr mask v) 0) && b) (twice (eqb v.service 0)))
-    where
-      twice : (b : Bool) → b ≡ not (not b)
-      twice true = refl
-      twice false = refl
+  without_priority p = grind (arith, nat_tests)

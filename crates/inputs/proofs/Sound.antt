@@ -3,11 +3,10 @@ use mathlib.Core.Path.{◌≡◌}
 use mathlib.Core.Bool.{true}
 use Prim.Native.Nat.{ℕ, ◌%◌, ◌<◌, ◌≤◌}
 use native.Mathlib.Omega.{arith}
-use lib.Dec.{ltb}
 use lib.Bits.{bit_and, and_le_l, and_le_r, or_lt}
-use borrow.Author.Tests.{lt-ltb, ltb-true}
+use Rattle.std.proofs.lemmas.Bool.Decides.{nat_tests}
 use Rattle.clocks.specs.Bits.{with_set, with_clear}
-use Rattle.clocks.proofs.Tests.{both, picked}
+use Rattle.clocks.proofs.Tests.{picked}
 use Rattle.inputs.specs.Inputs.{interrupts, priority, well_inputs, edges_of, pinned, highest_of, unmasked, shown, taken, ended, kept}
 use Rattle.inputs.specs.declared.Inputs.{Inputs}
 use Rattle.inputs.proofs.Top.{highest_le}
@@ -18,12 +17,10 @@ pub record Sound (v : Inputs) : Type 0 where
   pub service : v.service < 32
 
 pub sound : (v : Inputs) → well_inputs v ≡ true → Sound v
-sound v w =
-    let b = both (ltb v.latch 32) (ltb v.service 32) w in
-    record { latch = ltb-true v.latch 32 b.0; service = ltb-true v.service 32 b.1 }
+sound v w = grind (arith, nat_tests)
 
 pub well : (v : Inputs) → Sound v → well_inputs v ≡ true
-well v h = rw (lt-ltb v.latch 32 h.latch, lt-ltb v.service 32 h.service)
+well v h = grind (arith, nat_tests)
 
 cleared : (m x : ℕ) → with_clear m x ≤ x
 unfolding with_clear

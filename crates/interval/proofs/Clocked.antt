@@ -1,5 +1,6 @@
 -- One clock of the timer, case by case.
-use Rattle.std.proofs.Common.{◌≡◌, ◌-◌, ◌<◌, ◌≤◌, Bool, true, false, refl, arith, eq-eqb, ne_eqb}
+use Rattle.std.proofs.Common.{◌≡◌, ◌-◌, ◌<◌, ◌≤◌, Bool, true, false, refl, arith}
+use Rattle.std.proofs.lemmas.Bool.Decides.{nat_tests}
 use native.Mathlib.Decide.{dec_lt}
 use Rattle.clocks.specs.Clocks.{lower}
 use Rattle.interval.specs.Timer.{moved, clocked}
@@ -7,22 +8,22 @@ use Rattle.interval.specs.Closed.{spent}
 use Rattle.interval.specs.declared.Timer.{Timer}
 
 module _ (t : Timer) where
-  pub spent_falls : t.expired ≡ true → clocked t ≡ moved (lower 256 t.value) t.prescaler t
+  spent_falls : t.expired ≡ true → clocked t ≡ moved (lower 256 t.value) t.prescaler t
   unfolding clocked
-  spent_falls e = rw e
+  spent_falls e = grind arith
 
   module _ (e : t.expired ≡ false) where
-    pub waits : 1 < t.prescaler → clocked t ≡ moved t.value (t.prescaler - 1) t
+    waits : 1 < t.prescaler → clocked t ≡ moved t.value (t.prescaler - 1) t
     unfolding clocked
-    waits h = rw (e, ne_eqb (t.prescaler - 1) 0 (omega arith))
+    waits h = grind (arith, nat_tests)
 
-    pub passes : t.prescaler ≤ 1 → t.value ≡ 0 → clocked t ≡ spent 255 t
+    passes : t.prescaler ≤ 1 → t.value ≡ 0 → clocked t ≡ spent 255 t
     unfolding clocked
-    passes h z = rw (e, eq-eqb (t.prescaler - 1) 0 (omega arith), eq-eqb t.value 0 z)
+    passes h z = grind (arith, nat_tests)
 
-    pub falls : t.prescaler ≤ 1 → (t.value ≡ 0 → ⊥) → clocked t ≡ moved (t.value - 1) t.divider t
+    falls : t.prescaler ≤ 1 → (t.value ≡ 0 → ⊥) → clocked t ≡ moved (t.value - 1) t.divider t
     unfolding clocked
-    falls h z = rw (e, eq-eqb (t.prescaler - 1) 0 (omega arith), ne_eqb t.value 0 z)
+    falls h z = grind (arith, nat_tests)
 
 -- what holds of a timer after each of the four holds after a clock
 module _ (P : Timer → Type 0) (t : Timer)
@@ -41,4 +42,5 @@ module _ (P : Timer → Type 0) (t : Timer)
 
 -- a clock keeps the enable
 pub keeps_enable : (t : Timer) → (clocked t).enable ≡ t.enable
-keeps_enable t = by_case (λ u. u.enable ≡ t.enable) t (λ e. refl) (λ e h. refl) (λ e h z. refl) (λ e h z. refl)
+unfolding clocked
+keeps_enable t = grind arith

@@ -1,4 +1,4 @@
-// Where a number of clocks leads, without going through them.
+// Where a number of clocks leads, without going through them. Well-formed timers have no type of their own: the public functions take any.
 ghost use Rattle.std.specs.Prelude.{◌≡◌, ◌<◌, ◌≤◌, true};
 ghost use Rattle.interval.specs.Timer.{well_timed};
 ghost use Rattle.interval.specs.Closed.{counts_of, fallen as fallen_of, spent as spent_of};
@@ -12,7 +12,7 @@ impl Timer {
     {
         self.value = k;
         self.prescaler = 1;
-        self.flag = !self.expired | self.flag;
+        self.flag |= !self.expired;
         self.expired = true;
         self
     }

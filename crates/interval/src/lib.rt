@@ -1,11 +1,11 @@
 // The 6532's interval timer by value: a byte that counts down behind a divider, with a flag for its first passing of zero.
 #![tactic(auto)]
 
-ghost use Rattle.std.specs.Prelude.{◌≡◌, ◌^◌, ◌<◌, if◌then◌else◌};
+ghost use Rattle.std.specs.Prelude.{◌≡◌, if◌then◌else◌};
 ghost use Rattle.clocks.specs.Clocks.{after};
 ghost use Rattle.interval.specs.Timer.{well_timed, power_up, divider_of, loaded, clocked, Due};
 
-use clocks::{Forecast, choose8};
+use clocks::Forecast;
 
 mod closed;
 
@@ -20,18 +20,11 @@ pub struct Timer {
     pub enable: bool,
 }
 
-// The amount by which 1 is shifted. A choice above 3 counts as 3.
-fn amount(choice: u8) -> u8
-    ensures { (result < 16) × (2 ^ result ≡ divider_of choice) }
-{
-    let place = choose8(choice < 4, choice, 3);
-    Timer::AMOUNTS[place as usize]
-}
-
+// A choice above 3 counts as 3.
 fn divider(choice: u8) -> u16
     ensures { result ≡ divider_of choice }
 {
-    1 << amount(choice)
+    1 << Timer::AMOUNTS[choice.min(3) as usize]
 }
 
 impl Timer {
@@ -41,14 +34,7 @@ impl Timer {
     pub fn power_up() -> Timer
         ensures { result ≡ power_up }
     {
-        Timer {
-            value: 255,
-            divider: 1024,
-            prescaler: 1,
-            expired: false,
-            flag: false,
-            enable: false,
-        }
+        Timer::load(3, 255, false)
     }
 
     pub fn well(self) -> bool
@@ -76,6 +62,7 @@ impl Timer {
         }
     }
 
+    #[tactic(auto, unfolding(crate::specs::Timer::clocked))]
     pub fn clock(mut self) -> Timer
         ensures { result ≡ clocked self }
     {
@@ -84,18 +71,19 @@ impl Timer {
             return self;
         }
         if 1 < self.prescaler {
-            self.prescaler = self.prescaler - 1;
+            self.prescaler -= 1;
             return self;
         }
         if self.value == 0 {
             return self.spent(255);
         }
-        self.value = self.value - 1;
+        self.value -= 1;
         self.prescaler = self.divider;
         self
     }
 
     // n clocks, in a number of steps that does not grow with n; an ill-formed timer is left alone.
+    #[tactic(auto, using(crate::proofs::Runs::ran_short, crate::proofs::Runs::ran_past))]
     pub fn run(self, n: u32) -> Timer
         ensures { result ≡ (if well_timed self then after n clocked self else self) }
     {
@@ -110,13 +98,11 @@ impl Timer {
     }
 
     // When the flag is set, if nothing but clocks changes the timer.
+    #[tactic(auto, using(crate::proofs::Runs::flag_due))]
     pub fn due(self) -> Forecast
         ensures { Due self result }
     {
-        if !self.well() {
-            return Forecast::In(0);
-        }
-        if self.flag {
+        if !self.well() || self.flag {
             return Forecast::In(0);
         }
         if self.expired {

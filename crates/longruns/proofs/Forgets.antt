@@ -1,6 +1,7 @@
 -- What is left of a pulse is forgotten: two screens that differ in HSYNC and VSYNC alone are one after some clocks and line ends.
 use Rattle.std.proofs.Common.{◌≡◌, ℕ, zero, suc, ◌+◌, ◌-◌, ◌%◌, ◌≤◌, Bool, true, false, not, ◌&&◌, eqb, sym, refl, ap, ◌∙◌, arith, if◌then◌else◌}
 use native.Mathlib.Nat.{sub-zero}
+use Rattle.std.proofs.lemmas.Bool.Decides.{nat_tests}
 use Rattle.clocks.specs.Clocks.{after}
 use Rattle.clocks.proofs.Tests.{on_true, on_false}
 use Rattle.raster.specs.Clock.{with_vsync, new_frame, adjust_moved, row_ended, frame_moved, vsync_width, vsync_started, line_ended, line_clocked, raster_clocked}
@@ -31,20 +32,7 @@ near_none b x y z (low p q) = omega arith
 -- what VSYNC has left does not matter to the counters
 pub moved_vsync : (r : Registers) (x : ℕ) (f : Frame) → frame_moved r (with_vsync x f) ≡ with_vsync x (frame_moved r f)
 unfolding frame_moved adjust_moved row_ended new_frame
-moved_vsync r x f =
-    go f.adjusting (eqb ((f.adjust + 1) % 32) r.r5) (eqb f.scan r.r9) (eqb f.row r.r4) (eqb r.r5 0) _ _ _ _ _ _
-  where
-    go :
-        (a b c d e : Bool) (m n o p q s : Frame)
-        → (if a then (if b then with_vsync x m else with_vsync x n) else
-        (if c then (if d then (if e then with_vsync x o else with_vsync x p) else with_vsync x q) else with_vsync x s))
-        ≡ with_vsync x (if a then (if b then m else n) else (if c then (if d then (if e then o else p) else q) else s))
-    go true true c d e m n o p q s = refl
-    go true false c d e m n o p q s = refl
-    go false b true true true m n o p q s = refl
-    go false b true true false m n o p q s = refl
-    go false b true false e m n o p q s = refl
-    go false b false d e m n o p q s = refl
+moved_vsync r x f = grind (arith, nat_tests)
 
 -- VSYNC starts by the counters alone
 abbrev starts : Registers → Frame → Bool

@@ -1,5 +1,5 @@
 -- A leap: lines left out of a run, where at least sixteen are left that make up for HSYNC and VSYNC.
-use Rattle.std.proofs.Common.{◌≡◌, ℕ, suc, ◌+◌, ◌-◌, ◌*◌, ◌/◌, ◌%◌, ◌<◌, ◌≤◌, Bool, true, ◌&&◌, ltb, sym, refl, ap, ◌∙◌, mul-le-mul_right, mod-lt, add-mul, div-add-mod', le-div_iff_mul-le, arith, ltb-true}
+use Rattle.std.proofs.Common.{◌≡◌, ℕ, suc, ◌+◌, ◌-◌, ◌*◌, ◌/◌, ◌%◌, ◌<◌, ◌≤◌, Bool, true, ◌&&◌, ltb, sym, refl, ap, ◌∙◌, mul-le-mul_right, add-mul, div-add-mod', le-div_iff_mul-le, arith, ltb-true}
 use Rattle.clocks.specs.Clocks.{after}
 use Rattle.clocks.proofs.Clocks.{after_add, after_keeps}
 use Rattle.clocks.proofs.Tests.{both}
@@ -139,13 +139,6 @@ far_is v n a b e t q =
     record { well = p.1; ends = q; past = omega arith; lines = l }
 
 module _ {v : Raster} {n a : ℕ} (f : Far v n a) where
-  pub rest_small : (n - a - 1) % (v.registers.r0 + 1) < 256
-  rest_small =
-      let g = formed v f.well in
-      let b = g.registers in
-      let m = mod-lt (n - a - 1) {m = v.registers.r0 + 1} (omega arith) in
-      omega arith
-
   -- the leap, with c lines left and d one less
   pub leaps :
       (c d : ℕ) → c ≡ suc d → 16 ≤ c → c < 20

@@ -1,49 +1,39 @@
 -- A frame's line ends, VSYNC apart, are counts down to a new frame, and then round and round: an instance of the laws of clocks.
-use Rattle.std.proofs.Common.{◌≡◌, ℕ, suc, ◌+◌, ◌-◌, ◌*◌, ◌/◌, ◌%◌, ◌<◌, ◌≤◌, Bool, true, false, eqb, ltb, ◌⊎◌, sym, refl, ap, ◌∙◌, inl, inr, mul-le-mul_right, mod-lt, suc-mul, mul-le-mul, mul-zero, div-add-mod', zero-mul, mul-suc, mul-add, div-mul-le_self, arith, le-ltb, lt-ltb, eq-eqb, ne_eqb, if◌then◌else◌}
-use native.Mathlib.Nat.{sub-zero, sub_self, zero-div, add-mul-div_right}
+use Rattle.std.proofs.Common.{◌≡◌, ℕ, suc, ◌+◌, ◌-◌, ◌*◌, ◌/◌, ◌%◌, ◌<◌, ◌≤◌, Bool, true, false, eqb, ltb, ◌⊎◌, sym, refl, ap, ◌∙◌, inl, inr, mul-le-mul_right, suc-mul, div-add-mod', mul-suc, mul-add, arith, le-ltb, lt-ltb, eq-eqb, if◌then◌else◌}
+use native.Mathlib.Nat.{add-mul-div_right}
 use native.Mathlib.Decide.{dec_lt, dec_le, ℕ_discrete}
+use Rattle.std.proofs.lemmas.Bool.Decides.{nat_tests}
 use Rattle.clocks.specs.Clocks.{after}
 use Rattle.clocks.proofs.Tests.{on_true, on_false}
 use Rattle.clocks.proofs.Turns.{one_more, Within, Turned, Turns, after_short, after_past}
-use Rattle.raster.specs.Clock.{with_scan, with_row, with_row_start, with_adjust, row_done, new_frame, adjust_moved, row_ended, frame_moved}
+use Rattle.raster.specs.Clock.{with_adjust, row_done, new_frame, adjust_moved, row_ended, frame_moved}
 use Rattle.raster.specs.declared.Registers.{Registers}
 use Rattle.raster.specs.declared.Frame.{Frame}
-use Rattle.longruns.specs.Closed.{Counters, rows_after, ends_before, in_row, in_adjust, rows_left, LeftFits, at_row, place_of, with_field}
+use Rattle.longruns.specs.Closed.{Counters, rows_after, ends_before, in_row, in_adjust, rows_left, at_row, place_of, with_field, frame_on}
 
 -- ---- the cases of the definitions
 
-pub before_true : (r : Registers) (f : Frame) → f.adjusting ≡ true → ends_before r f ≡ (r.r5 + 31 - f.adjust) % 32
+before_true : (r : Registers) (f : Frame) → f.adjusting ≡ true → ends_before r f ≡ (r.r5 + 31 - f.adjust) % 32
 unfolding ends_before
 before_true r f e = on_true f.adjusting _ _ e
 
-pub before_false :
+before_false :
     (r : Registers) (f : Frame) → f.adjusting ≡ false
     → ends_before r f ≡ (r.r9 + 32 - f.scan) % 32 + rows_after r f * (r.r9 + 1) + r.r5
 unfolding ends_before
 before_false r f e = on_false f.adjusting _ _ e
 
-pub place_true : (r : Registers) (f : Frame) (k : ℕ) → f.adjusting ≡ true → place_of r f k ≡ with_adjust true ((r.r5 + 31 - k) % 32) f
+place_true : (r : Registers) (f : Frame) (k : ℕ) → f.adjusting ≡ true → place_of r f k ≡ with_adjust true ((r.r5 + 31 - k) % 32) f
 unfolding place_of
 place_true r f k e = on_true f.adjusting _ _ e
 
-pub place_adjust : (r : Registers) (f : Frame) (k : ℕ) → f.adjusting ≡ false → k < r.r5 → place_of r f k ≡ in_adjust r f (r.r5 - 1 - k)
+place_adjust : (r : Registers) (f : Frame) (k : ℕ) → f.adjusting ≡ false → k < r.r5 → place_of r f k ≡ in_adjust r f (r.r5 - 1 - k)
 unfolding place_of
 place_adjust r f k e h = on_false f.adjusting _ _ e ∙ on_true (ltb k r.r5) _ _ (lt-ltb k r.r5 h)
 
-pub place_row : (r : Registers) (f : Frame) (k : ℕ) → f.adjusting ≡ false → r.r5 ≤ k → place_of r f k ≡ at_row r f (k - r.r5)
+place_row : (r : Registers) (f : Frame) (k : ℕ) → f.adjusting ≡ false → r.r5 ≤ k → place_of r f k ≡ at_row r f (k - r.r5)
 unfolding place_of
 place_row r f k e h = on_false f.adjusting _ _ e ∙ on_false (ltb k r.r5) _ _ (le-ltb k r.r5 h)
-
--- ---- products and a rest fit
-
-pub lines_most : (a b : ℕ) → a < 128 → b < 32 → a * (b + 1) ≤ 4064
-lines_most a b h l = mul-le-mul {n₂ = 127} {m₂ = 32} (omega arith) (omega arith)
-
-pub growth_most : (a b : ℕ) → a < 256 → b ≤ 128 → a * b ≤ 32640
-growth_most a b h l = mul-le-mul {n₂ = 255} {m₂ = 128} (omega arith) l
-
-pub rest_fits : (m b : ℕ) → m % (b + 1) ≤ b
-rest_fits m b = let l = mod-lt m {m = b + 1} (omega arith) in omega arith
 
 module _ (r : Registers) (b4 : r.r4 < 128) (b5 : r.r5 < 32) (b9 : r.r9 < 32) (f : Frame) where
   -- ---- one line end
@@ -51,9 +41,7 @@ module _ (r : Registers) (b4 : r.r4 < 128) (b5 : r.r5 < 32) (b9 : r.r9 < 32) (f 
   -- a scan line less of the row
   scan_step : (s u : ℕ) → u < 31 → frame_moved r (in_row r f s (suc u)) ≡ in_row r f s u
   unfolding frame_moved in_row
-  scan_step s u h =
-      let e : ((r.r9 + 32 - suc u) % 32 + 1) % 32 ≡ (r.r9 + 32 - u) % 32 = omega arith in
-      rw (ne_eqb ((r.r9 + 32 - suc u) % 32) r.r9 (omega arith)) (ap (λ (x : ℕ). with_scan x (in_row r f s u)) e)
+  scan_step s u h = grind (arith, nat_tests)
 
   -- the row start grows by R1 once for each row
   grown : (s : ℕ) → s < rows_after r f
@@ -65,11 +53,7 @@ module _ (r : Registers) (b4 : r.r4 < 128) (b5 : r.r5 < 32) (b9 : r.r9 < 32) (f 
   -- a row less, and the next one has R9 scan lines after its first
   row_step : (s : ℕ) → s < rows_after r f → rows_after r f < 128 → frame_moved r (in_row r f (suc s) 0) ≡ in_row r f s r.r9
   unfolding frame_moved row_ended in_row
-  row_step s h l =
-      let e : ((r.r4 + 128 - suc s) % 128 + 1) % 128 ≡ (r.r4 + 128 - s) % 128 = omega arith in
-      let z : 0 ≡ (r.r9 + 32 - r.r9) % 32 = omega arith in
-      rw (eq-eqb ((r.r9 + 32 - 0) % 32) r.r9 (omega arith), ne_eqb ((r.r4 + 128 - suc s) % 128) r.r4 (omega arith))
-      (λ i. with_row (e i) (with_scan (z i) (with_row_start (grown s h i) (in_row r f s r.r9))))
+  row_step s h l = grind (arith, nat_tests, grown)
 
   -- the last row done: a new frame where R5 is 0, else adjust line 0
   abbrev ended : Frame
@@ -86,22 +70,17 @@ module _ (r : Registers) (b4 : r.r4 < 128) (b5 : r.r5 < 32) (b9 : r.r9 < 32) (f 
 
   rows_adjust : 0 < r.r5 → frame_moved r ended ≡ in_adjust r f 0
   unfolding in_row in_adjust
-  rows_adjust h =
-      let e : ((f.row_start + r.r1 * (rows_after r f - 0)) % 16384 + r.r1) % 16384 ≡ (f.row_start + r.r1 * (rows_after r f + 1)) % 16384 =
-      rw (mul-add, sub-zero) (omega arith) in
-      let t : (r.r4 + 128 - 0) % 128 ≡ r.r4 = omega arith in
-      rows_done (in_adjust r f 0)
-      (rw (ne_eqb r.r5 0 (omega arith)) (sym (λ i. with_row (t i) (with_row_start (e i) (in_adjust r f 0)))))
+  rows_adjust h = grind (arith, nat_tests, rows_done, mul-add)
 
   -- in adjust the next line, or a new frame at R5
   adjust_step : (g : Frame) (a : ℕ) → ((a + 1) % 32 ≡ r.r5 → ⊥)
       → frame_moved r (with_adjust true a g) ≡ with_adjust true ((a + 1) % 32) g
   unfolding frame_moved adjust_moved
-  adjust_step g a n = rw (ne_eqb ((a + 1) % 32) r.r5 n)
+  adjust_step g a n = grind (arith, nat_tests)
 
   adjust_done : (g : Frame) (a : ℕ) → (a + 1) % 32 ≡ r.r5 → frame_moved r (with_adjust true a g) ≡ new_frame r g
   unfolding frame_moved adjust_moved new_frame
-  adjust_done g a e = rw (eq-eqb ((a + 1) % 32) r.r5 e)
+  adjust_done g a e = grind (arith, nat_tests)
 
   in_adjust_step : (a : ℕ) → ((a + 1) % 32 ≡ r.r5 → ⊥) → frame_moved r (in_adjust r f a) ≡ in_adjust r f ((a + 1) % 32)
   unfolding in_adjust
@@ -116,28 +95,11 @@ module _ (r : Registers) (b4 : r.r4 < 128) (b5 : r.r5 < 32) (b9 : r.r9 < 32) (f 
   abbrev tall : ℕ
   tall = r.r9 + 1
 
-  pub left_all : (x : ℕ) → rows_after r f ≤ x / tall → rows_left r f x ≡ rows_after r f
-  left_all x h = go (dec_lt (rows_after r f) (x / tall))
-    where
-      go : Dec (rows_after r f < x / tall) → rows_left r f x ≡ rows_after r f
-      go (yes l) = rw (lt-ltb (rows_after r f) (x / tall) l)
-      go (no n) = rw (le-ltb (rows_after r f) (x / tall) (omega arith)) (omega arith)
+  left_all : (x : ℕ) → rows_after r f ≤ x / tall → rows_left r f x ≡ rows_after r f
+  left_all x h = grind (arith, nat_tests)
 
-  pub left_some : (x : ℕ) → x / tall ≤ rows_after r f → rows_left r f x ≡ x / tall
-  left_some x h = rw (le-ltb (rows_after r f) (x / tall) h)
-
-  pub left_fits : (x : ℕ) → x ≤ 31 + rows_after r f * tall → LeftFits r f x (rows_left r f x)
-  left_fits x h = go (dec_le (rows_after r f) (x / tall))
-    where
-      go : Dec (rows_after r f ≤ x / tall) → LeftFits r f x (rows_left r f x)
-      go (yes l) =
-          let m = mul-le-mul_right tall l in
-          let d = div-mul-le_self x tall in
-          rw (left_all x l) (omega arith, omega arith, omega arith)
-      go (no n) =
-          let d = div-add-mod' x tall in
-          let t = mod-lt x {m = tall} (omega arith) in
-          rw (left_some x (omega arith)) (omega arith, omega arith, omega arith)
+  left_some : (x : ℕ) → x / tall ≤ rows_after r f → rows_left r f x ≡ x / tall
+  left_some x h = grind (arith, nat_tests)
 
   -- one scan line less: the same rows
   same_row : (s x : ℕ) → rows_left r f (suc x) ≡ s → rows_left r f x ≡ s → s * tall ≤ x → x - s * tall < 31 → frame_moved r (at_row r f (suc x)) ≡ at_row r f x
@@ -184,56 +146,30 @@ module _ (r : Registers) (b4 : r.r4 < 128) (b5 : r.r5 < 32) (b9 : r.r9 < 32) (f 
     -- a frame is where its own counters place it
     row_begins : f.adjusting ≡ false → in_row r f (rows_after r f) scans ≡ f
     unfolding in_row rows_after
-    row_begins e =
-        let w = rows_after r f in
-        let a : (r.r4 + 128 - w) % 128 ≡ f.row = omega arith in
-        let b : (r.r9 + 32 - scans) % 32 ≡ f.scan = omega arith in
-        let z : (f.row_start + r.r1 * (w - w)) % 16384 ≡ f.row_start = rw (sub_self, mul-zero) (omega arith) in
-        λ i. with_row (a i) (with_scan (b i) (with_adjust (sym e i) f.adjust (with_row_start (z i) f)))
+    row_begins e = grind (arith, nat_tests)
 
     rows_begin : f.adjusting ≡ false → at_row r f (scans + rows_after r f * tall) ≡ f
-    rows_begin e =
-        let x = scans + rows_after r f * tall in
-        let d : x / tall ≡ scans / tall + rows_after r f = add-mul-div_right scans (rows_after r f) (omega arith) in
-        let u : x - rows_after r f * tall ≡ scans = omega arith in
-        rw (left_all x (omega (arith, d)), u) (row_begins e)
+    rows_begin e = grind (arith, nat_tests, left_all, row_begins, add-mul-div_right)
 
     -- in adjust from the start
     module _ (e : f.adjusting ≡ true) where
       start_true : place_of r f (ends_before r f) ≡ f
-      start_true =
-          let a : (r.r5 + 31 - (r.r5 + 31 - f.adjust) % 32) % 32 ≡ f.adjust = omega arith in
-          place_true r f (ends_before r f) e ∙ rw (before_true r f e) (λ i. with_adjust (sym e i) (a i) f)
+      start_true = grind (arith, nat_tests, place_true, before_true)
 
       counts_true : (k : ℕ) → k < ends_before r f → frame_moved r (place_of r f (suc k)) ≡ place_of r f k
-      counts_true k h =
-          let l : k < 31 = small k (rw (before_true r f e) at h) in
-          let a : ((r.r5 + 31 - suc k) % 32 + 1) % 32 ≡ (r.r5 + 31 - k) % 32 = omega arith in
-          ap (frame_moved r) (place_true r f (suc k) e)
-          ∙ adjust_step f ((r.r5 + 31 - suc k) % 32) (λ q. other k l (sym a ∙ q))
-          ∙ ap (λ (x : ℕ). with_adjust true x f) a
-          ∙ sym (place_true r f k e)
-        where
-          small : (k : ℕ) → k < (r.r5 + 31 - f.adjust) % 32 → k < 31
-          small k h = omega arith
-
-          other : (k : ℕ) → k < 31 → (r.r5 + 31 - k) % 32 ≡ r.r5 → ⊥
-          other k l q = omega (arith, q)
+      counts_true k h = grind (arith, nat_tests, place_true, before_true, adjust_step)
 
       passes_true : frame_moved r (place_of r f 0) ≡ new_frame r f
-      passes_true = ap (frame_moved r) (place_true r f 0 e) ∙ adjust_done f ((r.r5 + 31 - 0) % 32) (omega arith)
+      passes_true = grind (arith, nat_tests, place_true, adjust_done)
 
     -- in a row at the start
     module _ (e : f.adjusting ≡ false) where
       start_false : place_of r f (ends_before r f) ≡ f
-      start_false =
-          let k = scans + rows_after r f * tall + r.r5 in
-          let x : k - r.r5 ≡ scans + rows_after r f * tall = omega arith in
-          ap (place_of r f) (before_false r f e) ∙ place_row r f k e (omega arith) ∙ ap (at_row r f) x ∙ rows_begin e
+      start_false = grind (arith, nat_tests, before_false, place_row, rows_begin)
 
       -- the last row has none after it, and its last scan line none
       last_row : at_row r f 0 ≡ ended
-      last_row = rw (left_some 0 (rw zero-div (omega arith)), zero-div, zero-mul)
+      last_row = grind (arith, nat_tests, left_some)
 
       counts_false : (k : ℕ) → k < ends_before r f → frame_moved r (place_of r f (suc k)) ≡ place_of r f k
       counts_false k h = go (dec_lt (suc k) r.r5) (ℕ_discrete (suc k) r.r5)
@@ -262,14 +198,7 @@ module _ (r : Registers) (b4 : r.r4 < 128) (b5 : r.r5 < 32) (b9 : r.r9 < 32) (f 
               ∙ sym (place_row r f k e (omega arith))
 
       passes_false : frame_moved r (place_of r f 0) ≡ new_frame r f
-      passes_false = go (ℕ_discrete r.r5 0)
-        where
-          go : Dec (r.r5 ≡ 0) → frame_moved r (place_of r f 0) ≡ new_frame r f
-          go (yes z) =
-              let x : 0 - r.r5 ≡ 0 = omega arith in
-              ap (frame_moved r) (place_row r f 0 e (omega arith) ∙ ap (at_row r f) x ∙ last_row) ∙ rows_new z
-          go (no n) =
-              ap (frame_moved r) (place_adjust r f 0 e (omega arith)) ∙ in_adjust_done (r.r5 - 1 - 0) (omega arith)
+      passes_false = grind (arith, nat_tests, place_row, place_adjust, last_row, rows_new, in_adjust_done)
 
     -- wherever it starts
     by_adjusting : (P : Type 0) → (f.adjusting ≡ true → P) → (f.adjusting ≡ false → P) → P
@@ -289,10 +218,6 @@ module _ (r : Registers) (b4 : r.r4 < 128) (b5 : r.r5 < 32) (b9 : r.r9 < 32) (f 
     place_passes = by_adjusting _ passes_true passes_false
 
 -- ---- new frames
-
--- the first line of the frame that comes q frames after the next
-pub frame_on : Registers → Frame → ℕ → Frame
-frame_on r f q = with_field (((new_frame r f).field + q) % 32) (new_frame r f)
 
 module _ (r : Registers) (f : Frame) (h : Counters r f) where
   pub on_counters : (q : ℕ) → Counters r (frame_on r f q)
@@ -342,30 +267,19 @@ module _ (r : Registers) (f : Frame) (h : Counters r f) where
       again q =
           sym (ap (place_of r (frame_on r f (suc q))) (sym (low_is (suc q))) ∙ starts (frame_on r f (suc q)) (on_counters (suc q)))
 
-  -- n line ends of the counters, as the code comes to them: a and b are the line ends before a new frame, in this one and in x, the next
+  -- n line ends of the counters, as the code comes to them: a and b are the line ends before a new frame, in this one and in the next
   pub moved_short : (n a : ℕ) → a ≡ ends_before r f → n ≤ a → place_of r f (a - n) ≡ after n (frame_moved r) f
   moved_short n a e l = rw e (sym (after_short turns n (omega arith)))
 
-  module _ (n a b : ℕ) (x g : Frame) (e : x ≡ new_frame r f) (p : a ≡ ends_before r f) (q : b ≡ ends_before r x)
-      (t : g ≡ with_field ((x.field + (n - a - 1) / (b + 1)) % 32) x) where
+  module _ (n a b : ℕ) (p : a ≡ ends_before r f) (q : b ≡ low) where
     abbrev on : ℕ → ℕ → Frame
     on m w = frame_on r f (m / w)
 
-    is_on : g ≡ on (n - a - 1) (b + 1)
-    unfolding frame_on
-    is_on = t ∙ ap (λ (y : Frame). with_field ((y.field + (n - a - 1) / (b + 1)) % 32) y) e
+    pub place_fits : b - (n - a - 1) % (b + 1) ≤ ends_before r (on (n - a - 1) (b + 1))
+    place_fits = omega (arith, q, low_is ((n - a - 1) / (b + 1)))
 
-    is_low : b ≡ low
-    is_low = q ∙ ap (ends_before r) (e ∙ first_on)
-
-    pub place_fits : Counters r g × (b - (n - a - 1) % (b + 1) ≤ ends_before r g)
-    place_fits =
-        rw is_on (on_counters ((n - a - 1) / (b + 1)), omega (arith, is_low, low_is ((n - a - 1) / (b + 1))))
-
-    pub moved_past : a < n → place_of r g (b - (n - a - 1) % (b + 1)) ≡ after n (frame_moved r) f
+    pub moved_past : a < n → place_of r (on (n - a - 1) (b + 1)) (b - (n - a - 1) % (b + 1)) ≡ after n (frame_moved r) f
     moved_past l =
         let m : n - a - 1 ≡ n - suc (ends_before r f) = omega arith in
-        let w : b + 1 ≡ suc low = omega (arith, is_low) in
-        ap (λ (x : Frame). place_of r x (b - (n - a - 1) % (b + 1))) is_on
-        ∙ (λ i. place_of r (on (m i) (w i)) (is_low i - m i % w i))
-        ∙ sym (after_past turns n (omega arith))
+        let w : b + 1 ≡ suc low = omega (arith, q) in
+        (λ i. place_of r (on (m i) (w i)) (q i - m i % w i)) ∙ sym (after_past turns n (omega arith))

@@ -2,7 +2,7 @@
 use Rattle.std.specs.Prelude.{ℕ, ◌+◌, ◌-◌, ◌*◌, ◌/◌, ◌%◌, ◌<◌, ◌≤◌, true, false, nat_lt, if◌then◌else◌}
 use Rattle.clocks.specs.Clocks.{after}
 use Rattle.raster.specs.Record.{start_of}
-use Rattle.raster.specs.Clock.{with_row, with_scan, with_adjust, with_row_start, frame_moved}
+use Rattle.raster.specs.Clock.{with_row, with_scan, with_adjust, with_row_start, new_frame, frame_moved}
 use Rattle.raster.specs.declared.Registers.{Registers}
 use Rattle.raster.specs.declared.Frame.{Frame}
 use Rattle.raster.specs.declared.Raster.{Raster}
@@ -75,6 +75,10 @@ with_field x f =
       vsync = f.vsync;
       field = x;
     }
+
+-- the first line of the frame that comes q frames after the next
+unfoldable pub frame_on : Registers → Frame → ℕ → Frame
+frame_on r f q = with_field (((new_frame r f).field + q) % 32) (new_frame r f)
 
 -- a leap over k line ends comes to the start of a line, with no HSYNC, and VSYNC as it was
 abbrev pub leapt_of : ℕ → Raster → Raster

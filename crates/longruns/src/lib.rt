@@ -9,6 +9,7 @@ ghost use Rattle.raster.specs.Closed.{gap};
 ghost use Rattle.longruns.specs.Ends.{ends_of, turns_of};
 ghost use Rattle.longruns.specs.Closed.{leapt_of};
 
+use place::Place;
 use raster::{Line, Raster};
 
 mod place;
@@ -17,18 +18,14 @@ mod place;
 fn ahead(raster: Raster) -> u32
     ensures { (result ≡ gap raster.line.column raster.registers.r0) × (result < 256) }
 {
-    std::num::wrapping_sub_u8(raster.registers.r0, raster.line.column) as u32
+    raster.registers.r0.wrapping_sub(raster.line.column) as u32
 }
 
 // Whether to leap: below 20 lines it does not pay, and counters that are out of their ranges cannot be placed.
 fn far(raster: Raster, n: u32) -> bool
     ensures { result ≡ (nat_lt (gap raster.line.column raster.registers.r0 + 20 * (raster.registers.r0 + 1)) n && well_raster raster) }
 {
-    if ahead(raster) + 20 * (raster.registers.r0 as u32 + 1) < n {
-        raster.well()
-    } else {
-        false
-    }
+    ahead(raster) + 20 * (raster.registers.r0 as u32 + 1) < n && raster.well()
 }
 
 // The start of a line, `skipped` line ends on, with no HSYNC, and VSYNC as it was.
@@ -36,14 +33,12 @@ fn leapt(mut raster: Raster, skipped: u32) -> Raster
     requires { well_raster raster ≡ true }
     ensures { result ≡ leapt_of skipped raster }
 {
-    let registers = raster.registers;
-    let frame = raster.frame;
-    let line = Line {
-        column: 0,
-        hsync: 0,
+    let place = Place {
+        registers: raster.registers,
+        frame: raster.frame,
     };
-    raster.line = line;
-    raster.frame = place::placed(frame, registers, skipped);
+    raster.line = Line::default();
+    raster.frame = place.placed(skipped);
     raster
 }
 
@@ -75,6 +70,7 @@ pub fn ends(raster: Raster, n: u32) -> u32
 }
 
 // With R0 at 0 the longest run has 4,294,967,296 of them.
+#[tactic(auto, unfolding(crate::specs::Ends::turns_of))]
 pub fn turns(raster: Raster, n: u32) -> u64
     ensures { result ≡ turns_of n raster }
 {

@@ -42,11 +42,11 @@ impl Port {
     pub fn lines(self) -> u8
         ensures { result ≡ lines_of self }
     {
-        clocks::merge(self.ddr, self.output, self.outside)
+        self.lines_for(self.outside)
     }
 }
 
-// Whether a level made the chosen edge.
+// Whether a level made the chosen edge; a bit of a register chooses.
 pub fn edge(rising: bool, old: bool, new: bool) -> bool
     ensures { result ≡ edge_of rising old new }
 {

@@ -9,16 +9,12 @@ use crate::Registers;
 pub(crate) fn fitted(k: u8, value: u8) -> u8
     ensures { result ≡ value % size_of k }
 {
-    if (k == 4) | (k == 6) | (k == 7) | (k == 10) {
-        return value % 128;
+    match k {
+        4 | 6 | 7 | 10 => value % 128,
+        12 | 14 | 18 => value % 64,
+        5 | 9 | 11 => value % 32,
+        _ => value,
     }
-    if (k == 12) | (k == 14) | (k == 18) {
-        return value % 64;
-    }
-    if (k == 5) | (k == 9) | (k == 11) {
-        return value % 32;
-    }
-    value
 }
 
 impl Registers {

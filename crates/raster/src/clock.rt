@@ -1,78 +1,61 @@
-// A clock of the line, clocks that end none, and a line end.
+// A clock of the line, clocks that end none, and a line end. The registers come beside: what moves the line says nothing of the frame.
 ghost use Rattle.std.specs.Prelude.{◌≡◌, ◌+◌, ◌-◌, ◌%◌, ◌<◌, ◌≤◌};
 ghost use Rattle.raster.specs.Closed.{along_of};
 ghost use Rattle.raster.specs.Clock.{line_clocked, new_frame, adjust_moved, row_ended, frame_moved, vsync_started, line_ended};
 
 use crate::{Frame, Line, Registers};
-use clocks::choose8;
-
-// The count after x, in a count of `modulus` numbers.
-fn next(x: u8, modulus: u16) -> u8
-    requires { (0 < modulus) × (modulus ≤ 256) }
-    ensures { result ≡ (x + 1) % modulus }
-{
-    ((x as u16 + 1) % modulus) as u8
-}
-
-// x - y, or 0.
-fn less(x: u8, y: u8) -> u8
-    ensures { result ≡ x - y }
-{
-    if y < x { x - y } else { 0 }
-}
+use clocks::choose;
 
 impl Line {
     // Only R0 itself ends the line, so a column above a lowered R0 runs on to 255.
+    #[tactic(auto, unfolding(crate::specs::Clock::line_clocked))]
     pub(crate) fn clocked(self, registers: Registers) -> Line
         ensures { result ≡ line_clocked registers self }
     {
-        let column = choose8(self.column == registers.r0, 0, next(self.column, 256));
+        let column = choose(self.column == registers.r0, 0, self.column.wrapping_add(1));
         Line {
             column,
-            hsync: choose8(
+            hsync: choose(
                 column == registers.r2,
                 registers.r3 % 16,
-                less(self.hsync, 1),
+                self.hsync.saturating_sub(1),
             ),
         }
     }
 
     // k clocks that end no line.
+    #[tactic(auto, unfolding(crate::specs::Closed::along_of))]
     pub(crate) fn along(self, registers: Registers, k: u8) -> Line
         ensures { result ≡ along_of k registers self }
     {
-        let wait = std::num::wrapping_sub_u8(registers.r2, self.column);
+        let wait = registers.r2.wrapping_sub(self.column);
         let starts = (0 < wait) & (wait <= k);
-        let from = choose8(starts, registers.r3 % 16, self.hsync);
-        let since = choose8(starts, less(k, wait), k);
+        let from = choose(starts, registers.r3 % 16, self.hsync);
+        let since = choose(starts, k.saturating_sub(wait), k);
         Line {
-            column: std::num::wrapping_add_u8(self.column, k),
-            hsync: less(from, since),
+            column: self.column.wrapping_add(k),
+            hsync: from.saturating_sub(since),
         }
     }
 }
 
 impl Frame {
+    #[tactic(auto, unfolding(crate::specs::Clock::new_frame))]
     pub fn new_frame(self, registers: Registers) -> Frame
         ensures { result ≡ new_frame registers self }
     {
-        let start = registers.start();
         Frame {
-            row: 0,
-            scan: 0,
-            adjusting: false,
-            adjust: 0,
-            row_start: start,
-            frame_start: start,
             vsync: self.vsync,
-            field: next(self.field, 32),
+            field: self.field.wrapping_add(1) % 32,
+            ..Frame::first(registers.start())
         }
     }
 
+    #[tactic(auto, unfolding(crate::specs::Clock::adjust_moved))]
     fn adjust_moved(mut self, registers: Registers) -> Frame
         ensures { result ≡ adjust_moved registers self }
     {
-        let line = next(self.adjust, 32);
+        let line = self.adjust.wrapping_add(1) % 32;
         if line == registers.r5 {
             return self.new_frame(registers);
         }
@@ -80,12 +63,12 @@ impl Frame {
         self
     }
 
+    #[tactic(auto, unfolding(crate::specs::Clock::row_ended, crate::specs::Clock::new_frame))]
     fn row_ended(mut self, registers: Registers) -> Frame
         ensures { result ≡ row_ended registers self }
     {
-        let start = ((self.row_start as u32 + registers.r1 as u32) % 16384) as u16;
         self.scan = 0;
-        self.row_start = start;
+        self.row_start = self.row_start.wrapping_add(registers.r1 as u16) % 16384;
         if self.row == registers.r4 {
             if registers.r5 == 0 {
                 return self.new_frame(registers);
@@ -94,11 +77,11 @@ impl Frame {
             self.adjust = 0;
             return self;
         }
-        let row = next(self.row, 128);
-        self.row = row;
+        self.row = self.row.wrapping_add(1) % 128;
         self
     }
 
+    #[tactic(auto, unfolding(crate::specs::Clock::frame_moved))]
     fn moved(mut self, registers: Registers) -> Frame
         ensures { result ≡ frame_moved registers self }
     {
@@ -108,27 +91,25 @@ impl Frame {
         if self.scan == registers.r9 {
             return self.row_ended(registers);
         }
-        let scan = next(self.scan, 32);
-        self.scan = scan;
+        self.scan = self.scan.wrapping_add(1) % 32;
         self
     }
 
+    #[tactic(auto, unfolding(crate::specs::Clock::vsync_started))]
     fn vsync_started(mut self, registers: Registers) -> Frame
         ensures { result ≡ vsync_started registers self }
     {
         let high = registers.r3 / 16;
         let starts = !self.adjusting & (self.row == registers.r7) & (self.scan == 0);
-        let left = choose8(starts, choose8(high == 0, 16, high), self.vsync);
-        self.vsync = left;
+        self.vsync = choose(starts, choose(high == 0, 16, high), self.vsync);
         self
     }
 
+    #[tactic(auto, unfolding(crate::specs::Clock::line_ended))]
     pub(crate) fn line_ended(mut self, registers: Registers) -> Frame
         ensures { result ≡ line_ended registers self }
     {
-        let left = less(self.vsync, 1);
-        self.vsync = left;
-        let moved = self.moved(registers);
-        moved.vsync_started(registers)
+        self.vsync = self.vsync.saturating_sub(1);
+        self.moved(registers).vsync_started(registers)
     }
 }

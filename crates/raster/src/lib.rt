@@ -8,7 +8,7 @@ ghost use Rattle.raster.specs.Access.{stored as stored_of};
 ghost use Rattle.raster.specs.Clock.{raster_clocked};
 ghost use Rattle.raster.specs.Signals.{signals_of};
 
-use clocks::{bit, choose8};
+use clocks::{bit, choose};
 
 mod access;
 mod clock;
@@ -16,7 +16,7 @@ mod cursor;
 mod record;
 
 // R16 and R17 are the light pen's, so no clock changes these.
-#[derive(Clone, Copy)]
+#[derive(Clone, Copy, Default)]
 pub struct Registers {
     pub r0: u8,
     pub r1: u8,
@@ -39,14 +39,14 @@ pub struct Registers {
 }
 
 // What every clock moves: the column, and the clocks that HSYNC has left.
-#[derive(Clone, Copy)]
+#[derive(Clone, Copy, Default)]
 pub struct Line {
     pub column: u8,
     pub hsync: u8,
 }
 
 // What only a line end moves; `vsync` is the lines that VSYNC has left.
-#[derive(Clone, Copy)]
+#[derive(Clone, Copy, Default)]
 pub struct Frame {
     pub row: u8,
     pub scan: u8,
@@ -58,7 +58,7 @@ pub struct Frame {
     pub field: u8,
 }
 
-#[derive(Clone, Copy)]
+#[derive(Clone, Copy, Default)]
 pub struct Raster {
     pub registers: Registers,
     pub line: Line,
@@ -83,61 +83,47 @@ pub fn allowed_r8(x: u8) -> bool
 }
 
 impl Raster {
+    #[tactic(auto, unfolding(crate::specs::Record::raster_up))]
     pub fn power_up() -> Raster
         ensures { result ≡ raster_up }
     {
-        Raster {
-            registers: Registers::cleared(),
-            line: Line {
-                column: 0,
-                hsync: 0,
-            },
-            frame: Frame::first(0),
-        }
+        Raster::default()
     }
 
+    #[tactic(auto, unfolding(crate::specs::Record::well_raster, crate::specs::Record::well_line, clocks::specs::Ranges::within))]
     pub fn well(self) -> bool
         ensures { result ≡ well_raster self }
     {
-        let registers = self.registers;
-        let frame = self.frame;
-        registers.well() & (self.line.hsync < 16) & frame.well()
+        self.registers.well() & (self.line.hsync < 16) & self.frame.well()
     }
 
     // A write of register k.
+    #[tactic(auto, unfolding(crate::specs::Access::stored))]
     pub fn stored(mut self, k: u8, value: u8) -> Raster
         ensures { result ≡ stored_of k value self }
     {
-        let registers = self.registers;
-        self.registers = registers.put(k, access::fitted(k, value));
+        self.registers = self.registers.put(k, access::fitted(k, value));
         self
     }
 
     // What a reset does: the first line of a frame at the start that the registers hold.
+    #[tactic(auto, unfolding(crate::specs::Record::restarted))]
     pub fn restarted(mut self) -> Raster
         ensures { result ≡ restarted_of self }
     {
-        let registers = self.registers;
-        let line = Line {
-            column: 0,
-            hsync: 0,
-        };
-        self.line = line;
-        self.frame = Frame::first(registers.start());
+        self.line = Line::default();
+        self.frame = Frame::first(self.registers.start());
         self
     }
 
+    #[tactic(auto, unfolding(crate::specs::Clock::raster_clocked))]
     pub fn clocked(mut self) -> Raster
         ensures { result ≡ raster_clocked self }
     {
-        let registers = self.registers;
-        let line = self.line;
-        let frame = self.frame;
-        self.line = line.clocked(registers);
-        if line.column != registers.r0 {
-            return self;
+        if self.line.column == self.registers.r0 {
+            self.frame = self.frame.line_ended(self.registers);
         }
-        self.frame = frame.line_ended(registers);
+        self.line = self.line.clocked(self.registers);
         self
     }
 
@@ -145,31 +131,31 @@ impl Raster {
     pub fn run(mut self, n: u32) -> Raster
         ensures { result ≡ after n raster_clocked self }
     {
-        let registers = self.registers;
-        let mut line = self.line;
-        let mut frame = self.frame;
+        // The first line is shorter than the others, so the lines are not counted before.
         let mut left = n;
-        let mut ahead = std::num::wrapping_sub_u8(registers.r0, line.column);
+        let mut ahead = self.registers.r0.wrapping_sub(self.line.column);
         while (ahead as u32) < left {
-            let last = line.along(registers, ahead);
-            line = last.clocked(registers);
-            frame = frame.line_ended(registers);
+            let last = self.line.along(self.registers, ahead);
+            self.line = last.clocked(self.registers);
+            self.frame = self.frame.line_ended(self.registers);
             left = left - ahead as u32 - 1;
-            ahead = registers.r0;
+            ahead = self.registers.r0;
         }
-        self.line = line.along(registers, left as u8);
-        self.frame = frame;
+        self.line = self.line.along(self.registers, left as u8);
         self
     }
 
+    #[tactic(auto, unfolding(crate::specs::Signals::signals_of))]
     pub fn signals(self) -> Signals
         ensures { result ≡ signals_of self }
     {
-        let registers = self.registers;
-        let line = self.line;
-        let frame = self.frame;
+        let Raster {
+            registers,
+            line,
+            frame,
+        } = self;
         let ma = registers.ma(line, frame);
-        let ra = choose8(frame.adjusting, frame.adjust, frame.scan);
+        let ra = choose(frame.adjusting, frame.adjust, frame.scan);
         let blanking = (registers.r6 <= frame.row) | frame.adjusting;
         let de = !blanking & (line.column < registers.r1);
         Signals {

@@ -1,43 +1,19 @@
 // Which rasters are well formed, and what power-up and a reset start from.
 ghost use Rattle.std.specs.Prelude.{◌≡◌};
-ghost use Rattle.raster.specs.Record.{start_of, no_registers, well_registers, well_frame, first_frame};
+ghost use Rattle.raster.specs.Record.{start_of, well_registers, well_frame, first_frame};
 
 use crate::{Frame, Registers, allowed_r8};
 
 impl Registers {
-    pub(crate) fn cleared() -> Registers
-        ensures { result ≡ no_registers }
-    {
-        Registers {
-            r0: 0,
-            r1: 0,
-            r2: 0,
-            r3: 0,
-            r4: 0,
-            r5: 0,
-            r6: 0,
-            r7: 0,
-            r8: 0,
-            r9: 0,
-            r10: 0,
-            r11: 0,
-            r12: 0,
-            r13: 0,
-            r14: 0,
-            r15: 0,
-            r18: 0,
-            r19: 0,
-        }
-    }
-
     // Where a frame starts.
     pub(crate) fn start(self) -> u16
         ensures { result ≡ start_of self }
     {
-        self.r12 as u16 * 256 + self.r13 as u16
+        u16::from_be_bytes([self.r12, self.r13])
     }
 
     // A byte is in the range of a register of 8 bits by itself.
+    #[tactic(auto, unfolding(crate::specs::Record::well_registers, clocks::specs::Ranges::within))]
     pub(crate) fn well(self) -> bool
         ensures { result ≡ well_registers self }
     {
@@ -61,17 +37,13 @@ impl Frame {
         ensures { result ≡ first_frame start }
     {
         Frame {
-            row: 0,
-            scan: 0,
-            adjusting: false,
-            adjust: 0,
             row_start: start,
             frame_start: start,
-            vsync: 0,
-            field: 0,
+            ..Frame::default()
         }
     }
 
+    #[tactic(auto, unfolding(crate::specs::Record::well_frame, clocks::specs::Ranges::within))]
     pub(crate) fn well(self) -> bool
         ensures { result ≡ well_frame self }
     {

@@ -1,4 +1,5 @@
 -- Clocks that shift are a counter that passes zero once and then rests: n of them, and when the flag is set.
+use Rattle.std.specs.Int.{from_bool}
 use Rattle.std.specs.Prelude.{if◌then◌else◌}
 use mathlib.Core.Path.{◌≡◌, refl, sym, ap, ◌∙◌}
 use mathlib.Core.Bool.{Bool, true, false, not, ◌&&◌, ◌||◌, and-false, false≢true}
@@ -15,7 +16,7 @@ use Rattle.clocks.proofs.Tests.{both, on_false, picked}
 use Rattle.clocks.proofs.Turns.{Turns, after_short, after_past, flag_after}
 use Rattle.clocks.proofs.Forecasts.{stood_comes, AtMost, most_gated}
 use Rattle.shifter.specs.Shifter.{by_clock, by_pulse, shifted, shifts, marked, counting, clocked, pulsed, accessed}
-use Rattle.shifter.specs.Closed.{begun, clocks_of, due_of}
+use Rattle.shifter.specs.Closed.{clocks_of, due_of}
 use Rattle.shifter.specs.declared.Shifter.{Shifter}
 use Rattle.shifter.proofs.Shifts.{mode_kept, left_after, flag_before, flag_at_last}
 
@@ -78,7 +79,7 @@ module _ (level : Bool) (s : Shifter) (m : by_clock s.mode ≡ true) (l : 0 < s.
       (omega (arith, left_after (λ k. level) s j (omega arith)))
 
   falls : (k : ℕ) → k < clocks_of s - 1 → clocked level (fallen level (suc k) s) ≡ fallen level k s
-  falls k g = go (dec_lt (k % 2) 1) (picked (λ (b : ℕ). k < 2 * s.left - b - 1 → suc k < 2 * s.left) s.half (λ q. omega arith) (λ q. omega arith) g)
+  falls k g = go (dec_lt (k % 2) 1) (omega arith)
     where
       go : Dec (k % 2 < 1) → suc k < 2 * s.left → clocked level (fallen level (suc k) s) ≡ fallen level k s
       go (yes e) q =
@@ -114,7 +115,7 @@ module _ (level : Bool) (s : Shifter) (m : by_clock s.mode ≡ true) (l : 0 < s.
       }
     where
       -- with the mark h
-      go : (h : Bool) → fallen level (2 * s.left - begun h - 1) (marked h s) ≡ marked h s
+      go : (h : Bool) → fallen level (2 * s.left - from_bool h - 1) (marked h s) ≡ marked h s
       go true =
           let e : s.left - suc ((2 * s.left - 1 - 1) / 2) ≡ 0 = omega arith in
           rw (eq-eqb ((2 * s.left - 1 - 1) % 2) 0 (omega arith), e)
@@ -122,27 +123,25 @@ module _ (level : Bool) (s : Shifter) (m : by_clock s.mode ≡ true) (l : 0 < s.
           let e : s.left - suc ((2 * s.left - 0 - 1) / 2) ≡ 0 = omega arith in
           rw (ne_eqb ((2 * s.left - 0 - 1) % 2) 0 (omega arith), e)
 
-  -- n clocks, short of the last shift and past it
+  -- n clocks, short of the last shift and past it; with those that the mark stands for they are `clocks`
   pub ran_short :
-      (n : ℕ) → n + begun s.half < 2 * s.left
-      → after n (clocked level) s
-      ≡ marked (eqb ((n + begun s.half) % 2) 1) (made level ((n + begun s.half) / 2) s)
-  ran_short n h =
-      let b = begun s.half in
-      let j : s.left - suc ((clocks_of s - 1 - n) / 2) ≡ (n + b) / 2 = omega arith in
-      after_short turns n (omega arith) ∙ (λ i. marked (parity b h i) (made level (j i) s))
+      (n clocks : ℕ) → clocks ≡ n + from_bool s.half → clocks < 2 * s.left
+      → after n (clocked level) s ≡ marked (eqb (clocks % 2) 1) (made level (clocks / 2) s)
+  ran_short n clocks e h =
+      let j : s.left - suc ((clocks_of s - 1 - n) / 2) ≡ clocks / 2 = omega arith in
+      after_short turns n (omega arith) ∙ (λ i. marked (parity (from_bool s.half) e i) (made level (j i) s))
     where
-      parity : (b : ℕ) → n + b < 2 * s.left → eqb ((2 * s.left - b - 1 - n) % 2) 0 ≡ eqb ((n + b) % 2) 1
-      parity b h = go (dec_lt ((n + b) % 2) 1)
+      parity : (b : ℕ) → clocks ≡ n + b → eqb ((2 * s.left - b - 1 - n) % 2) 0 ≡ eqb (clocks % 2) 1
+      parity b e = go (dec_lt (clocks % 2) 1)
         where
-          go : Dec ((n + b) % 2 < 1) → eqb ((2 * s.left - b - 1 - n) % 2) 0 ≡ eqb ((n + b) % 2) 1
-          go (yes e) = rw (ne_eqb ((2 * s.left - b - 1 - n) % 2) 0 (omega arith), ne_eqb ((n + b) % 2) 1 (omega arith))
-          go (no e) = rw (eq-eqb ((2 * s.left - b - 1 - n) % 2) 0 (omega arith), eq-eqb ((n + b) % 2) 1 (omega arith))
+          go : Dec (clocks % 2 < 1) → eqb ((2 * s.left - b - 1 - n) % 2) 0 ≡ eqb (clocks % 2) 1
+          go (yes f) = rw (ne_eqb ((2 * s.left - b - 1 - n) % 2) 0 (omega arith), ne_eqb (clocks % 2) 1 (omega arith))
+          go (no f) = rw (eq-eqb ((2 * s.left - b - 1 - n) % 2) 0 (omega arith), eq-eqb (clocks % 2) 1 (omega arith))
 
-  pub ran_past : (n : ℕ) → 2 * s.left ≤ n + begun s.half → after n (clocked level) s ≡ spent level s
+  pub ran_past : (n : ℕ) → 2 * s.left ≤ n + from_bool s.half → after n (clocked level) s ≡ spent level s
   ran_past n h = after_past turns n (some s.half h)
     where
-      some : (h : Bool) → 2 * s.left ≤ n + begun h → 2 * s.left - begun h - 1 < n
+      some : (h : Bool) → 2 * s.left ≤ n + from_bool h → 2 * s.left - from_bool h - 1 < n
       some true q = omega arith
       some false q = omega arith
 
@@ -161,7 +160,7 @@ module _ (level : Bool) (s : Shifter) (m : by_clock s.mode ≡ true) (l : 0 < s.
           let e : suc (s.left - 1) ≡ s.left = omega arith in
           ap (λ (j : ℕ). (made level j s).flag) (sym e) ∙ flag_at_last (λ k. level) s (s.left - 1) e
 
-      whole : (h : Bool) → 2 * s.left - begun h - 1 + 1 ≡ 2 * s.left - begun h
+      whole : (h : Bool) → 2 * s.left - from_bool h - 1 + 1 ≡ 2 * s.left - from_bool h
       whole true = omega arith
       whole false = omega arith
 

@@ -1,17 +1,14 @@
 -- What the code computes in place of single clocks. No promise of a public function rests on it: proofs/ shows that the clocks lead there.
-use Rattle.std.specs.Prelude.{Bool, ℕ, ◌-◌, ◌*◌, if◌then◌else◌}
+use Rattle.std.specs.Prelude.{ℕ, ◌-◌, ◌*◌, if◌then◌else◌}
+use Rattle.std.specs.Int.{from_bool}
 use Rattle.clocks.specs.declared.Forecast.{Forecast}
 use Rattle.clocks.specs.declared.Forecast.TheVariants.{Never, In}
 use Rattle.shifter.specs.Shifter.{counting}
 use Rattle.shifter.specs.declared.Shifter.{Shifter}
 
--- clocks that the mark stands for
-abbrev pub begun : Bool → ℕ
-begun half = if half then 1 else 0
-
--- the clocks up to the last shift
+-- the clocks up to the last shift; a set mark stands for one of them
 abbrev pub clocks_of : Shifter → ℕ
-clocks_of s = 2 * s.left - begun s.half
+clocks_of s = 2 * s.left - from_bool s.half
 
 -- when the flag is set
 abbrev pub due_of : Shifter → Forecast

@@ -2,15 +2,14 @@
 // flag is set. CB2's level is handed in, since it is the pin's.
 #![tactic(auto)]
 
-ghost use Rattle.std.specs.Prelude.{◌≡◌, Bool, ℕ, ◌≤◌};
+ghost use Rattle.std.specs.Prelude.{◌≡◌, Bool, ℕ};
 ghost use Rattle.clocks.specs.Clocks.{after};
 ghost use Rattle.clocks.specs.Forecasts.{comes};
 ghost use Rattle.shifter.specs.Shifter.{by_clock, by_pulse, outward as outward_of, allowed_mode, taken as taken_of, shifted as shifted_of, shifts as shifts_of, marked as marked_of, counting as counting_of, clocked, pulsed as pulsed_of, accessed as accessed_of};
-ghost use Rattle.shifter.specs.Closed.{begun as begun_of};
 
-use clocks::{Forecast, bit, choose8, with_mask};
+use clocks::{Forecast, bit, choose, with_mask};
 
-// `left`: shifts to come. `half`: the half-clock mark. `output`: what it puts on CB2. `mode`: bits 4 to 2 of ACR as a number.
+// `left`: shifts to come. `half`: the half-clock mark. `output`: what it puts on CB2. `mode`: bits 4 to 2 of ACR, a number, since any byte may stand there.
 #[derive(Clone, Copy)]
 pub struct Shifter {
     pub byte: u8,
@@ -24,26 +23,26 @@ pub struct Shifter {
 fn by_clock(mode: u8) -> bool
     ensures { result ≡ by_clock mode }
 {
-    (mode == 2) | (mode == 6)
+    matches!(mode, 2 | 6)
 }
 
 fn by_pulse(mode: u8) -> bool
     ensures { result ≡ by_pulse mode }
 {
-    (mode == 3) | (mode == 7)
+    matches!(mode, 3 | 7)
 }
 
 fn outward(mode: u8) -> bool
     ensures { result ≡ outward_of mode }
 {
-    (mode == 6) | (mode == 7)
+    matches!(mode, 6 | 7)
 }
 
 // False for the modes in which T2 would time the shifts: they are not built.
 pub fn allowed(mode: u8) -> bool
     ensures { result ≡ allowed_mode mode }
 {
-    (mode != 1) & (mode != 4) & (mode != 5)
+    !matches!(mode, 1 | 4 | 5)
 }
 
 impl Shifter {
@@ -59,24 +58,24 @@ impl Shifter {
     }
 
     // One shift. None to come stand for 8.
-    fn shifted(mut self, level: bool) -> Shifter
+    #[tactic(auto, using(crate::proofs::Shifts::some_to_come), unfolding(crate::specs::Shifter::shifted, clocks::specs::Bits::with_bit))]
+    fn shifted(self, level: bool) -> Shifter
         ensures { result ≡ shifted_of level self }
     {
-        let enters = self.taken(level);
-        let output = self.taken(self.output);
-        let left = choose8(self.left == 0, 8, self.left) - 1;
-        self.byte = with_mask(1, enters, self.byte % 128 * 2);
-        self.left = left;
-        self.output = output;
-        self.flag = (left == 0) | self.flag;
-        self
+        let left = choose(self.left == 0, 8, self.left) - 1;
+        Shifter {
+            byte: with_mask(1, self.taken(level), self.byte % 128 * 2),
+            left,
+            output: self.taken(self.output),
+            flag: (left == 0) | self.flag,
+            ..self
+        }
     }
 
-    fn marked(mut self, half: bool) -> Shifter
+    fn marked(self, half: bool) -> Shifter
         ensures { result ≡ marked_of half self }
     {
-        self.half = half;
-        self
+        Shifter { half, ..self }
     }
 
     // Whether clocks move it.
@@ -86,34 +85,25 @@ impl Shifter {
         by_clock(self.mode) & (self.left != 0)
     }
 
-    // The clocks that the mark stands for.
-    fn begun(self) -> u8
-        ensures { (result ≡ begun_of self.half) × (result ≤ 1) }
-    {
-        choose8(self.half, 1, 0)
-    }
-
     // m shifts on end.
-    fn shifts(self, m: u8, level: bool) -> Shifter
+    #[tactic(auto, unfolding(clocks::specs::Clocks::in_turn))]
+    fn shifts(mut self, m: u8, level: bool) -> Shifter
         ensures { result ≡ shifts_of m (λ k. level) self }
     {
-        let mut now = self;
-        let mut i = 0;
-        while i < m {
-            now = now.shifted(level);
-            i += 1;
+        for _ in 0..m {
+            self = self.shifted(level);
         }
-        now
+        self
     }
 
+    #[tactic(auto, unfolding(crate::specs::Shifter::clocked))]
     pub fn clock(self, level: bool) -> Shifter
         ensures { result ≡ clocked level self }
     {
         if !self.counting() {
             return self;
         }
-        let second = self.half;
-        if second {
+        if self.half {
             self.shifted(level).marked(false)
         } else {
             self.marked(true)
@@ -121,13 +111,14 @@ impl Shifter {
     }
 
     // n clocks with CB2 still, in a number of steps that does not grow with n: no more than the shifts to come.
+    #[tactic(auto, using(crate::proofs::Runs::resting, crate::proofs::Runs::ran_short, crate::proofs::Runs::ran_past))]
     pub fn run(self, n: u32, level: bool) -> Shifter
         ensures { result ≡ after n (clocked level) self }
     {
         if !self.counting() {
             return self;
         }
-        let clocks = n as u64 + self.begun() as u64;
+        let clocks = n as u64 + self.half as u64;
         if 2 * self.left as u64 <= clocks {
             return self.shifts(self.left, level).marked(false);
         }
@@ -136,6 +127,7 @@ impl Shifter {
     }
 
     // When the flag is set, with CB1 still; CB2 does not matter.
+    #[tactic(auto, using(crate::proofs::Runs::flag_due))]
     pub fn due(self) -> Forecast
         ensures { (level : Bool) (k : ℕ) → (after k (clocked level) self).flag ≡ comes result k }
     {
@@ -143,7 +135,7 @@ impl Shifter {
             return Forecast::In(0);
         }
         if self.counting() {
-            let clocks = 2 * self.left as u32 - self.begun() as u32;
+            let clocks = 2 * self.left as u32 - self.half as u32;
             Forecast::In(clocks)
         } else {
             Forecast::Never
@@ -151,6 +143,7 @@ impl Shifter {
     }
 
     // CB1 rises, or does not; `level` is CB2's after it.
+    #[tactic(auto, unfolding(crate::specs::Shifter::pulsed))]
     pub fn pulsed(self, rise: bool, level: bool) -> Shifter
         ensures { result ≡ pulsed_of rise level self }
     {
@@ -162,6 +155,7 @@ impl Shifter {
     }
 
     // A read or a write, the byte apart.
+    #[tactic(auto, unfolding(crate::specs::Shifter::accessed))]
     pub fn accessed(mut self) -> Shifter
         ensures { result ≡ accessed_of self }
     {
@@ -169,7 +163,6 @@ impl Shifter {
         if by_clock(self.mode) | by_pulse(self.mode) {
             self.left = 8;
             self.half = false;
-            return self;
         }
         self
     }

@@ -123,11 +123,7 @@ keeps_free t =
     picked (λ (u : T1). u.free ≡ t.free) t.mark refl
     (picked (λ (u : T1). u.free ≡ t.free) (eqb t.counter 0) refl refl)
 
--- what the test of the mark says, and the test from it
-pub fits_top : (m : Bool) (c : ℕ) → mark_fits m c ≡ true → m ≡ true → c ≡ 65535
-fits_top true c h e = eqb-true c 65535 h
-fits_top false c h e = absurd (false≢true e)
-
+-- the test of the mark, from what it says
 pub top_fits : (m : Bool) (c : ℕ) → (m ≡ true → c ≡ 65535) → mark_fits m c ≡ true
 top_fits true c h = eq-eqb c 65535 (h refl)
 top_fits false c h = refl

@@ -10,12 +10,14 @@ use clocks::Forecast;
 
 impl T1 {
     // The counter at `counter`, the mark cleared.
-    fn at(mut self, counter: u16) -> T1
+    fn at(self, counter: u16) -> T1
         ensures { result ≡ at_of counter self }
     {
-        self.counter = counter;
-        self.mark = false;
-        self
+        T1 {
+            counter,
+            mark: false,
+            ..self
+        }
     }
 
     // How many counts it is above zero; with the mark set, one more than the latch.
@@ -30,6 +32,7 @@ impl T1 {
     }
 
     // The passing of zero, and q more.
+    #[tactic(auto, using(crate::proofs::Parity::turns_round))]
     fn turned(mut self, q: u32) -> T1
         ensures { result ≡ turned_of q self }
     {
@@ -51,11 +54,13 @@ impl T1 {
         ensures { result ≡ fallen_of k self }
     {
         if k == self.top() {
-            return self;
+            self
+        } else {
+            self.at(k as u16)
         }
-        self.at(k as u16)
     }
 
+    #[tactic(auto, unfolding(crate::specs::First::clocked, clocks::specs::Clocks::after))]
     pub fn clock(self) -> T1
         ensures { result ≡ clocked_of self }
     {
@@ -70,6 +75,7 @@ impl T1 {
     }
 
     // n clocks, in a number of steps that does not grow with n.
+    #[tactic(auto, using(crate::proofs::Firsts::ran_short, crate::proofs::Firsts::ran_past))]
     pub fn run(self, n: u32) -> T1
         ensures { result ≡ after n clocked_of self }
     {
@@ -84,6 +90,7 @@ impl T1 {
     }
 
     // When the flag is set.
+    #[tactic(auto, using(crate::proofs::Firsts::flag_due))]
     pub fn due(self) -> Forecast
         ensures { (k : ℕ) → (after k clocked_of self).flag ≡ comes result k }
     {

@@ -8,6 +8,8 @@ ghost use Rattle.timers.specs.Pair.{clocked as clocked_pair};
 mod first;
 mod second;
 
+// T1 and T2 have no rule in common, and nothing is generic over them: their clocks and runs are no trait's.
+
 // `mark`: the counter takes the latch at the next clock. `level`: what T1 puts on PB7. `free`: free-run, else one-shot.
 #[repr(C)]
 #[derive(Clone, Copy)]
@@ -43,23 +45,20 @@ impl Timers {
     pub fn clock(self) -> Timers
         ensures { result ≡ clocked_pair self }
     {
-        let t1 = self.t1;
-        let t2 = self.t2;
         Timers {
-            t1: t1.clock(),
-            t2: t2.clock(),
+            t1: self.t1.clock(),
+            t2: self.t2.clock(),
         }
     }
 
     // n clocks, in a number of steps that does not grow with n.
+    #[tactic(auto, using(crate::proofs::Pairs::each))]
     pub fn run(self, n: u32) -> Timers
         ensures { result ≡ after n clocked_pair self }
     {
-        let t1 = self.t1;
-        let t2 = self.t2;
         Timers {
-            t1: t1.run(n),
-            t2: t2.run(n),
+            t1: self.t1.run(n),
+            t2: self.t2.run(n),
         }
     }
 }

@@ -9,18 +9,19 @@ use clocks::Forecast;
 
 impl T2 {
     // One count, by a clock or by a pulse on PB6.
+    #[tactic(auto, using(clocks::proofs::Clocks::lowered), unfolding(crate::specs::Second::counted))]
     pub fn counted(self) -> T2
         ensures { result ≡ counted_of self }
     {
         T2 {
             counter: std::num::wrapping_sub_u16(self.counter, 1),
-            low: self.low,
             armed: self.armed & (self.counter != 0),
             flag: self.armed & (self.counter == 0) | self.flag,
-            pulse: self.pulse,
+            ..self
         }
     }
 
+    #[tactic(auto, unfolding(crate::specs::Second::clocked))]
     pub fn clock(self) -> T2
         ensures { result ≡ clocked_of self }
     {
@@ -28,6 +29,7 @@ impl T2 {
     }
 
     // A fall of PB6 counts where pulses do.
+    #[tactic(auto, unfolding(crate::specs::Second::pulsed))]
     pub fn pulsed(self, fall: bool) -> T2
         ensures { result ≡ pulsed_of fall self }
     {
@@ -39,6 +41,7 @@ impl T2 {
     }
 
     // n clocks, in a number of steps that does not grow with n.
+    #[tactic(auto, using(crate::proofs::Seconds::resting, crate::proofs::Seconds::ran_short, crate::proofs::Seconds::ran_past))]
     pub fn run(mut self, n: u32) -> T2
         ensures { result ≡ after n clocked_of self }
     {
@@ -57,6 +60,7 @@ impl T2 {
     }
 
     // When the flag is set, with PB6 still.
+    #[tactic(auto, using(crate::proofs::Seconds::flag_due))]
     pub fn due(self) -> Forecast
         ensures { (k : ℕ) → (after k clocked_of self).flag ≡ comes result k }
     {

@@ -1,11 +1,6 @@
-use Rattle.std.proofs.Common.{◌+◌, ◌-◌, sym, div-le_self, arith}
+use Rattle.std.proofs.Common.{sym, arith}
 use Rattle.longruns.proofs.Lines.{along_ends, ends_some}
 use Rattle.longruns.proofs.ends.Goals as goal
-
-pub overflow_add-result-then-first-n : goal.overflow_add-result-then-first-n
-overflow_add-result-then-first-n c =
-    let m = c.args.n - c.ahead-first.result - 1 in
-    omega (arith, c.well_formed, div-le_self m (c.args.raster.registers.r0 + 1))
 
 pub returns-then-first-n : goal.returns-then-first-n
 returns-then-first-n c =

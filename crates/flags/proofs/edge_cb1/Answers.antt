@@ -1,4 +1,0 @@
-use Rattle.flags.proofs.edge_cb1.Goals as goal
-
-pub returns : goal.returns
-returns c = rw (c.edge.ensures, c.bit-3.ensures, c.bit-2.ensures, c.bit.ensures)

@@ -1,7 +1,0 @@
-use Rattle.ports.proofs.edge.Goals as goal
-
-pub returns-then-rising : goal.returns-then-rising
-returns-then-rising c = rw c.if-rising.true
-
-pub returns-else-rising : goal.returns-else-rising
-returns-else-rising c = rw c.if-rising.false
