@@ -1,7 +1,8 @@
 -- n clocks: the strobe is the first one's, the kept signals are those before the last, and the raster runs by itself.
 use mathlib.Core.Path.{◌≡◌, refl, ap, ◌∙◌}
-use mathlib.Core.Bool.{Bool, true, false}
 use Prim.Native.Nat.{ℕ, zero, suc}
+use native.Mathlib.Omega.{arith}
+use Rattle.std.proofs.lemmas.Bool.Decides.{nat_tests}
 use Rattle.clocks.specs.Clocks.{after}
 use Rattle.raster.specs.Clock.{raster_clocked}
 use Rattle.raster.specs.Signals.{signals_of}
@@ -12,11 +13,7 @@ use Rattle.crtc6545.specs.declared.Crtc.{Crtc}
 -- a strobe leaves none waiting
 strobed_once : (x y : ℕ) (p : Light) → strobed x (strobed y p) ≡ strobed y p
 unfolding strobed
-strobed_once x y p = go p.waiting refl
-  where
-    go : (t : Bool) → p.waiting ≡ t → strobed x (strobed y p) ≡ strobed y p
-    go true e = unfold strobed in rw e
-    go false e = unfold strobed in rw e
+strobed_once x y p = grind (arith, nat_tests)
 
 -- the record with its raster n + 1 clocks on and the pen's part as given
 abbrev pub moved : ℕ → Light → Crtc → Crtc

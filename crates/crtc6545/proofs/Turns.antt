@@ -1,18 +1,19 @@
 -- The turns of a run: of two runs in a row, and how many there can be.
-use Rattle.std.specs.Prelude.{if◌then◌else◌}
+use Rattle.std.specs.Prelude.{Option, None, Some}
 use mathlib.Core.Path.{◌≡◌, refl, sym, ap, ◌∙◌}
 use mathlib.Core.Bool.{Bool, true, false}
 use Prim.Native.Nat.{ℕ, zero, suc, ◌+◌, ◌/◌, ◌<◌, ◌≤◌, zero-le}
 use native.Mathlib.Nat.{zero-add, add-zero}
-use native.Mathlib.Decide.{ℕ_discrete}
 use native.Mathlib.Omega.{arith}
-use lib.Dec.{ltb}
-use borrow.Author.Tests.{ne_eqb, ltb-false}
+use borrow.Author.Tests.{ne_eqb}
+use Rattle.std.proofs.lemmas.Bool.Decides.{nat_tests}
 use Rattle.clocks.specs.Clocks.{after}
 use Rattle.clocks.proofs.Tests.{on_true, on_false}
 use Rattle.chips.specs.Chips.{first}
 use Rattle.chips.proofs.Chips.{accepts_only_well, runs_well}
 use Rattle.calls.specs.declared.Call45.TheVariants.{Run}
+use Rattle.calls.specs.declared.Refusal.{Refusal}
+use Rattle.calls.specs.declared.Refusal.TheVariants.{IllFormed}
 use Rattle.raster.specs.Clock.{raster_clocked}
 use Rattle.raster.specs.declared.Raster.{Raster}
 use Rattle.raster.proofs.Formed as Rasters
@@ -51,19 +52,19 @@ raster_after (suc n) v = ap raster_clocked (raster_after n v)
 
 module _ (n : ℕ) (b : Bool) (v : Crtc) where
   running_well : well_formed v ≡ true → n ≤ longest_run b → running_of n b v ≡ running (turns_of n v.raster) (accepted 0 (after n clock_of v))
-  running_well w h = runs n b v 0 (sym (on_true (well_formed v) _ _ w ∙ run_taken n b h)) refl
+  running_well w h = runs n b v None (sym (on_true (well_formed v) _ _ w ∙ run_taken n b h)) refl
 
-  running_ill : well_formed v ≡ false → running_of n b v ≡ running 0 (refused 1 v)
-  running_ill w = runs_none n b v 1 (sym (on_false (well_formed v) _ _ w)) (λ z. omega (arith, z))
+  running_ill : well_formed v ≡ false → running_of n b v ≡ running 0 (refused IllFormed v)
+  running_ill w = runs_none n b v (Some IllFormed) (sym (on_false (well_formed v) _ _ w)) IllFormed refl
 
   -- a property of 0, and of the turns of a run that is not refused
   turns_by :
-      (P : ℕ → Type 0) → P 0 → (well_formed v ≡ true → run_asks n b ≡ 0 → P (turns_of n v.raster)) → P (running_of n b v).turns
-  turns_by P p q = go (ℕ_discrete (first chip (Run n b) v) 0)
+      (P : ℕ → Type 0) → P 0 → (well_formed v ≡ true → run_asks n b ≡ None → P (turns_of n v.raster)) → P (running_of n b v).turns
+  turns_by P p q = go (first chip (Run n b) v) refl
     where
-      go : Dec (first chip (Run n b) v ≡ 0) → P (running_of n b v).turns
-      go (no z) = rw (ap (λ (x : Running). x.turns) (runs_none n b v _ refl z)) p
-      go (yes z) =
+      go : (k : Option Refusal) → first chip (Run n b) v ≡ k → P (running_of n b v).turns
+      go (Some r) z = rw (ap (λ (x : Running). x.turns) (runs_none n b v _ refl r z)) p
+      go None z =
           let w = accepts_only_well chip (Run n b) v _ refl z in
           rw (ap (λ (x : Running). x.turns) (runs n b v _ refl z)) (q w (sym (on_true (well_formed v) _ _ w) ∙ z))
 
@@ -99,12 +100,8 @@ turns_most b v n = turns_by n b v (λ k. k ≤ n / (v.raster.registers.r0 + 1) +
 pub turns_fit : Demands.TurnsFit
 turns_fit v n = turns_by n true v (λ k. k < 4294967296) (omega arith) (λ w e. omega (arith, turns_few n v.raster, short e))
   where
-    short : run_asks n true ≡ 0 → n ≤ 4294967290
-    short e = go (ltb 4294967290 n) refl e
-      where
-        go : (t : Bool) → ltb 4294967290 n ≡ t → ◌≡◌ {A = ℕ} (if t then 6 else 0) 0 → n ≤ 4294967290
-        go true q z = absurd (omega (arith, z))
-        go false q z = ltb-false 4294967290 n q
+    short : run_asks n true ≡ None → n ≤ 4294967290
+    short e = grind (arith, nat_tests)
 
 pub turns_apart : Demands.TurnsApart
 turns_apart v n h = go (well_formed v) refl

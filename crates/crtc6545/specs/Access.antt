@@ -1,5 +1,7 @@
 -- What a read gives and leaves, what a write leaves, and which operands are refused.
-use Rattle.std.specs.Prelude.{Bool, not, ◌&&◌, ◌||◌, ℕ, ◌+◌, ◌%◌, eqb, ltb, if◌then◌else◌}
+use Rattle.std.specs.Prelude.{Bool, not, ◌&&◌, ◌||◌, ℕ, ◌+◌, ◌%◌, eqb, ltb, Option, None, Some, if◌then◌else◌}
+use Rattle.calls.specs.declared.Refusal.{Refusal}
+use Rattle.calls.specs.declared.Refusal.TheVariants.{NoRegister, LeftOut}
 use Rattle.raster.specs.Record.{allowed_r8}
 use Rattle.raster.specs.Access.{stored}
 use Rattle.raster.specs.Signals.{signals_of}
@@ -45,9 +47,9 @@ read_of a v =
       kept = v.kept;
     }
 
--- an address above 1 is refused with 3
-abbrev pub read_asks : ℕ → ℕ
-read_asks a = if ltb 1 a then 3 else 0
+-- an address above 1 names no register
+abbrev pub read_asks : ℕ → Option Refusal
+read_asks a = if ltb 1 a then Some NoRegister else None
 
 -- ---- writes
 
@@ -65,6 +67,6 @@ write_of a x v =
 abbrev pub refused_form : ℕ → ℕ → Crtc → Bool
 refused_form a x v = eqb a 1 && eqb v.address 8 && not (allowed_r8 x)
 
--- an address above 1 is refused with 3, a form of R8 that is not allowed with 4
-abbrev pub write_asks : ℕ → ℕ → Crtc → ℕ
-write_asks a x v = if ltb 1 a then 3 else (if refused_form a x v then 4 else 0)
+-- an address above 1 names no register; a form of R8 that is not allowed is left out
+abbrev pub write_asks : ℕ → ℕ → Crtc → Option Refusal
+write_asks a x v = if ltb 1 a then Some NoRegister else (if refused_form a x v then Some LeftOut else None)

@@ -1,9 +1,10 @@
 -- The 6545 as a chip: what each call asks for, gives and leaves, and what an answer shows.
-use Rattle.std.specs.Prelude.{Bool, false, ◌&&◌, ℕ, eqb, ltb, if◌then◌else◌}
+use Rattle.std.specs.Prelude.{Bool, false, ◌&&◌, ℕ, ltb, Option, None, Some, is_none, if◌then◌else◌}
 use Rattle.clocks.specs.Clocks.{after}
 use Rattle.chips.specs.Chips.{Chip, Clocked, first, answer}
 use Rattle.calls.specs.Calls.{Typed45}
 use Rattle.calls.specs.declared.Call45.{Call45}
+use Rattle.calls.specs.declared.Refusal.{Refusal}
 use Rattle.calls.specs.declared.Call45.TheVariants.{Reset, Write, Read, Pins, Run}
 use Rattle.raster.specs.Signals.{signals_of}
 use Rattle.longruns.specs.Ends.{turns_of}
@@ -17,9 +18,9 @@ use Rattle.crtc6545.specs.declared.Answer.{Answer}
 use Rattle.crtc6545.specs.declared.Reading.{Reading}
 use Rattle.crtc6545.specs.declared.Running.{Running}
 
--- the refusal that the operands of a call ask for, 0 for none
-abbrev pub asks_of : Call45 → Crtc → ℕ
-asks_of Reset v = 0
+-- what the operands of a call are refused for
+abbrev pub asks_of : Call45 → Crtc → Option Refusal
+asks_of Reset v = None
 asks_of (Write a x) v = write_asks a x v
 asks_of (Read a) v = read_asks a
 asks_of (Pins x) v = pins_asks x
@@ -44,7 +45,7 @@ leaves_of (Run n counted) v = after n clock_of v
 unfoldable pub accepted : ℕ → Crtc → Answer
 accepted d v =
     record {
-      refusal = 0;
+      refusal = None;
       «data» = d;
       de = shown_de v;
       hsync = ltb 0 v.raster.line.hsync;
@@ -55,11 +56,11 @@ accepted d v =
       crtc = v;
     }
 
--- a refused call shows its number and nothing else, and hands the record back untouched
-unfoldable pub refused : ℕ → Crtc → Answer
-refused n v =
+-- a refused call shows its refusal and nothing else, and hands the record back untouched
+unfoldable pub refused : Refusal → Crtc → Answer
+refused r v =
     record {
-      refusal = n;
+      refusal = Some r;
       «data» = 0;
       de = false;
       hsync = false;
@@ -84,7 +85,7 @@ chip =
       leaves = leaves_of;
       accepted = accepted;
       refused = refused;
-      number = λ r. r.refusal;
+      refusal = λ r. r.refusal;
       left = λ r. r.crtc;
     }
 
@@ -94,11 +95,11 @@ clocked counted = record { rule = clock_of; run = λ n. Run n counted; longest =
 
 -- a read: the answer to the call, and a mark that is clear where it is refused
 unfoldable pub reading_of : ℕ → Crtc → Reading
-reading_of a v = record { undriven = eqb (first chip (Read a) v) 0 && undriven_of a v; answer = answer chip (Read a) v }
+reading_of a v = record { undriven = is_none (first chip (Read a) v) && undriven_of a v; answer = answer chip (Read a) v }
 
 -- an answer to a run of n clocks with their turns, none where it is refused
 abbrev pub with_turns : ℕ → Crtc → Answer → Running
-with_turns n v r = record { turns = if eqb r.refusal 0 then turns_of n v.raster else 0; answer = r }
+with_turns n v r = record { turns = if is_none r.refusal then turns_of n v.raster else 0; answer = r }
 
 -- a run: the answer to the call, with its turns
 unfoldable pub running_of : ℕ → Bool → Crtc → Running

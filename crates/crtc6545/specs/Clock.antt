@@ -1,5 +1,7 @@
 -- One clock, the turns of two runs, and the runs that are refused.
-use Rattle.std.specs.Prelude.{Bool, true, false, ◌&&◌, ℕ, ◌+◌, ◌-◌, ◌/◌, ◌%◌, eqb, ltb, if◌then◌else◌}
+use Rattle.std.specs.Prelude.{Bool, true, false, ◌&&◌, ℕ, ◌+◌, ◌-◌, ◌/◌, ◌%◌, eqb, ltb, Option, None, Some, if◌then◌else◌}
+use Rattle.calls.specs.declared.Refusal.{Refusal}
+use Rattle.calls.specs.declared.Refusal.TheVariants.{TooLong}
 use Rattle.raster.specs.Clock.{raster_clocked}
 use Rattle.raster.specs.Signals.{signals_of}
 use Rattle.raster.specs.declared.Raster.{Raster}
@@ -36,6 +38,6 @@ joined x y = if eqb x 0 then y else (if eqb y 0 then x else x + y - 1)
 abbrev pub longest_run : Bool → ℕ
 longest_run counted = if counted then 4294967290 else 4294967295
 
--- above that a run that is counted is refused with 6; of one that is not, every number that a call can have is taken
-abbrev pub run_asks : ℕ → Bool → ℕ
-run_asks n counted = if counted && ltb (longest_run true) n then 6 else 0
+-- above that a run that is counted is too long; of one that is not, every number that a call can have is taken
+abbrev pub run_asks : ℕ → Bool → Option Refusal
+run_asks n counted = if counted && ltb (longest_run true) n then Some TooLong else None

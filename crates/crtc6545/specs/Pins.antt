@@ -1,5 +1,7 @@
 -- What a new level of the light pen leaves.
-use Rattle.std.specs.Prelude.{not, ◌&&◌, ◌||◌, ℕ, eqb, ltb, if◌then◌else◌}
+use Rattle.std.specs.Prelude.{not, ◌&&◌, ◌||◌, ℕ, eqb, ltb, Option, None, Some, if◌then◌else◌}
+use Rattle.calls.specs.declared.Refusal.{Refusal}
+use Rattle.calls.specs.declared.Refusal.TheVariants.{NoLevel}
 use Rattle.crtc6545.specs.declared.Crtc.{Crtc}
 
 -- a rise makes a strobe wait, and nothing but a clock or a reset ends the wait
@@ -19,6 +21,6 @@ pins_of x v =
       kept = v.kept;
     }
 
--- a pen level above 1 is refused with 5
-abbrev pub pins_asks : ℕ → ℕ
-pins_asks x = if ltb 1 x then 5 else 0
+-- a pen level above 1 is no level
+abbrev pub pins_asks : ℕ → Option Refusal
+pins_asks x = if ltb 1 x then Some NoLevel else None

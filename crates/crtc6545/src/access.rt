@@ -3,30 +3,33 @@ ghost use Rattle.std.specs.Prelude.{◌≡◌};
 ghost use Rattle.crtc6545.specs.Access.{write_asks, status_of, register_of, data_of};
 
 use crate::Crtc;
-use clocks::choose8;
+use calls::Refusal;
+use clocks::choose;
 use raster::allowed_r8;
 
 impl Crtc {
-    pub(crate) fn write_asks(self, address: u8, value: u8) -> u8
+    pub(crate) fn write_asks(self, address: u8, value: u8) -> Option<Refusal>
         ensures { result ≡ write_asks address value self }
     {
+        if 1 < address {
+            return Some(Refusal::NoRegister);
+        }
         let form = (address == 1) & (self.address == 8) & !allowed_r8(value);
-        choose8(1 < address, 3, choose8(form, 4, 0))
+        form.then_some(Refusal::LeftOut)
     }
 
+    #[tactic(auto, unfolding(crate::specs::Access::status_of))]
     fn status(self) -> u8
         ensures { result ≡ status_of self }
     {
-        let raster = self.raster;
-        let signals = raster.signals();
-        choose8(self.light.full, 64, 0) + choose8(signals.blanking, 32, 0)
+        choose(self.light.full, 64, 0) + choose(self.raster.signals().blanking, 32, 0)
     }
 
+    #[tactic(auto, unfolding(crate::specs::Access::register_of))]
     fn register(self) -> u8
         ensures { result ≡ register_of self.address self }
     {
-        let k = self.address;
-        match k {
+        match self.address {
             14 => self.raster.registers.r14,
             15 => self.raster.registers.r15,
             16 => self.light.r16,

@@ -1,5 +1,5 @@
 -- The proofs of specs/Demands.antt.
-use Rattle.std.specs.Prelude.{if◌then◌else◌}
+use Rattle.std.specs.Prelude.{if◌then◌else◌, Ok, Err}
 use mathlib.Core.Path.{◌≡◌, refl, sym, ap, ◌∙◌}
 use mathlib.Core.Bool.{Bool, true, false}
 use Prim.Native.Nat.{ℕ}
@@ -10,6 +10,7 @@ use Rattle.timers.specs.Pair.{clocked}
 use Rattle.timers.specs.declared.Timers.{Timers}
 use Rattle.timers.proofs.Firsts.{top_fits, marked_top}
 use Rattle.calls.specs.declared.Call22.TheVariants.{Run}
+use Rattle.calls.proofs.Refusals.{number_one, number_some}
 use Rattle.via6522.specs.Clock.{timers_of}
 use Rattle.via6522.proofs.Formed.{formed}
 use Rattle.via6522.proofs.Lens.{timers_after}
@@ -89,3 +90,9 @@ pair_of_the_6522 n v w =
 pub pair_of_the_6522_once : Demands.PairOfThe6522Once
 unfolding after
 pair_of_the_6522_once v w = pair_of_the_6522 1 v w
+
+pub result_one : Demands.ResultOne
+result_one (Ok x) (Ok y) e = refl
+result_one (Ok x) (Err q) e = absurd (number_some q (sym e))
+result_one (Err r) (Ok y) e = absurd (number_some r e)
+result_one (Err r) (Err q) e = ap Err (number_one r q e)

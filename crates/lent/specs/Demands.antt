@@ -1,5 +1,6 @@
 -- What request 13 asks beyond the promises of the two functions. proofs/Demands.antt has a proof of each statement, under its name in small letters.
-use Rattle.std.specs.Prelude.{◌≡◌, true, ℕ}
+use Rattle.std.specs.Prelude.{◌≡◌, true, ℕ, Result, ⊤}
+use Rattle.calls.specs.declared.Refusal.{Refusal}
 use Rattle.clocks.specs.Clocks.{after}
 use Rattle.timers.specs.Pair as Pair
 use Rattle.timers.specs.declared.Timers.{Timers}
@@ -9,7 +10,7 @@ use Rattle.via6522.specs.Record.{well_formed}
 use Rattle.via6522.specs.Clock.{timers_of}
 use Rattle.via6522.specs.Chip.{chip}
 use Rattle.via6522.specs.declared.Via.{Via}
-use Rattle.lent.specs.Lent.{outcome, lent, clock_pair, run_pair}
+use Rattle.lent.specs.Lent.{number_in, outcome, lent, clock_pair, run_pair}
 
 -- the pair after one call of `clock_pair`
 abbrev pub clocked_once : Timers → Timers
@@ -38,3 +39,7 @@ PairOfThe6522 = (n : ℕ) (v : Via) → well_formed v ≡ true → run_pair n (t
 -- and so for one clock, which for the 6522 is a run of 1
 abbrev pub PairOfThe6522Once : Type 0
 PairOfThe6522Once = (v : Via) → well_formed v ≡ true → clock_pair (timers_of v) ≡ outcome 0 (timers_of (next chip (Run 1) v))
+
+-- the number settles what a call gives back
+abbrev pub ResultOne : Type 0
+ResultOne = (r s : Result ⊤ Refusal) → number_in r ≡ number_in s → r ≡ s

@@ -1,8 +1,15 @@
 -- What a call gives for a pair that is lent to it: a number, and the pair as it is then.
-use Rattle.std.specs.Prelude.{ℕ, if◌then◌else◌}
+use Rattle.std.specs.Prelude.{ℕ, if◌then◌else◌, Result, Ok, Err, ⊤}
+use Rattle.calls.specs.Refusals.{number_of}
+use Rattle.calls.specs.declared.Refusal.{Refusal}
 use Rattle.clocks.specs.Clocks.{after}
 use Rattle.timers.specs.Pair.{well_formed, clocked}
 use Rattle.timers.specs.declared.Timers.{Timers}
+
+-- the number of what a call gives back: that of the refusal, or 0
+abbrev pub number_in : Result ⊤ Refusal → ℕ
+number_in (Ok x) = 0
+number_in (Err r) = number_of r
 
 -- 1 for an ill-formed pair, 0 for any other
 abbrev pub refusal_of : Timers → ℕ

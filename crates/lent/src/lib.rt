@@ -1,52 +1,50 @@
-// The 6522's timer pair in its owner's memory: a call borrows it, decides everything on a copy, and stores what is left.
+// The 6522's timer pair in its owner's memory: a call borrows it, clocks a copy, and stores that.
 #![tactic(auto)]
 
-ghost use Rattle.std.specs.Prelude.{◌≡◌};
-ghost use Rattle.clocks.specs.Clocks.{after};
-ghost use Rattle.timers.specs.Pair.{well_formed, clocked as clocked_pair};
-ghost use Rattle.lent.specs.Lent.{refusal_of, left_of, outcome, clock_pair, run_pair};
+ghost use Rattle.std.specs.Prelude.{◌≡◌, MatchBool};
+ghost use Rattle.timers.specs.Pair.{well_formed};
+ghost use Rattle.lent.specs.Lent.{number_in, refusal_of, outcome, clock_pair, run_pair};
 
+use calls::Refusal;
 use timers::Timers;
 
 fn well_formed(p: Timers) -> bool
     ensures { result ≡ well_formed p }
 {
-    let t1 = p.t1;
-    !t1.mark | (t1.counter == 65535)
+    !p.t1.mark | (p.t1.counter == 65535)
 }
 
-fn refusal(p: Timers) -> u8
-    ensures { result ≡ refusal_of p }
+fn checked(p: Timers) -> Result<(), Refusal>
+    ensures { number_in result ≡ refusal_of p }
 {
-    if well_formed(p) { 0 } else { 1 }
+    if well_formed(p) {
+        Ok(())
+    } else {
+        Err(Refusal::IllFormed)
+    }
 }
 
-fn clocked(p: Timers) -> Timers
-    ensures { result ≡ left_of clocked_pair p }
+// A step by value, of a well-formed pair; any other stays as it is.
+fn stepped<F: FnOnce(Timers) -> Timers>(p: &mut Timers, step: F) -> Result<(), Refusal>
+    requires { F.pre step p.old }
+    ensures number { number_in result ≡ refusal_of p.old }
+    ensures left { MatchBool (well_formed p.old) (F.post step p.old p.new) (p.new ≡ p.old) }
 {
-    if refusal(p) == 0 { p.clock() } else { p }
-}
-
-fn ran(p: Timers, n: u32) -> Timers
-    ensures { result ≡ left_of (after n clocked_pair) p }
-{
-    if refusal(p) == 0 { p.run(n) } else { p }
+    checked(*p)?;
+    *p = step(*p);
+    Ok(())
 }
 
 // One clock.
-pub fn clock_pair(p: &mut Timers) -> u8
-    ensures { outcome result p.new ≡ clock_pair p.old }
+pub fn clock_pair(p: &mut Timers) -> Result<(), Refusal>
+    ensures { outcome (number_in result) p.new ≡ clock_pair p.old }
 {
-    let old = *p;
-    *p = clocked(old);
-    refusal(old)
+    stepped(p, Timers::clock)
 }
 
 // n clocks, in a number of steps that does not grow with n.
-pub fn run_pair(p: &mut Timers, n: u32) -> u8
-    ensures { outcome result p.new ≡ run_pair n p.old }
+pub fn run_pair(p: &mut Timers, n: u32) -> Result<(), Refusal>
+    ensures { outcome (number_in result) p.new ≡ run_pair n p.old }
 {
-    let old = *p;
-    *p = ran(old, n);
-    refusal(old)
+    stepped(p, |pair| pair.run(n))
 }

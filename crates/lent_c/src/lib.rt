@@ -2,16 +2,27 @@
 #![tactic(auto)]
 
 ghost use Rattle.std.specs.Prelude.{◌≡◌};
-ghost use Rattle.lent.specs.Lent.{outcome, clock_pair, run_pair};
+ghost use Rattle.lent.specs.Lent.{number_in, outcome, clock_pair, run_pair};
 
+use calls::Refusal;
 use timers::Timers;
+
+// What C is told: a refusal's number, or 0.
+fn number(answer: Result<(), Refusal>) -> u8
+    ensures { result ≡ number_in answer }
+{
+    match answer {
+        Ok(()) => 0,
+        Err(refusal) => refusal.number(),
+    }
+}
 
 // One clock.
 #[unsafe(no_mangle)]
 pub extern "C" fn clock_pair(p: &mut Timers) -> u8
     ensures { outcome result p.new ≡ clock_pair p.old }
 {
-    lent::clock_pair(p)
+    number(lent::clock_pair(p))
 }
 
 // n clocks, in a number of steps that does not grow with n.
@@ -19,5 +30,5 @@ pub extern "C" fn clock_pair(p: &mut Timers) -> u8
 pub extern "C" fn run_pair(p: &mut Timers, n: u32) -> u8
     ensures { outcome result p.new ≡ run_pair n p.old }
 {
-    lent::run_pair(p, n)
+    number(lent::run_pair(p, n))
 }

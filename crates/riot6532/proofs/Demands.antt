@@ -5,6 +5,8 @@ use mathlib.Core.Bool.{Bool, not, ◌&&◌}
 use mathlib.Core.List.{[]}
 use Prim.Native.Nat.{ℕ}
 use lib.Dec.{eqb}
+use native.Mathlib.Omega.{arith}
+use Rattle.std.proofs.lemmas.Bool.Decides.{nat_tests}
 use Rattle.clocks.specs.Bits.{bit, with_bit}
 use Rattle.clocks.proofs.Bits.{bit_none, bit_clear, bit_with}
 use Rattle.calls.specs.declared.Call32.TheVariants.{Read}
@@ -16,9 +18,6 @@ use Rattle.riot6532.specs.Access.{flags_of}
 use Rattle.riot6532.specs.Chip.{chip, clocked, lined, whole, flags, reading_of}
 use Rattle.riot6532.specs.Demands
 use Rattle.riot6532.specs.declared.Io.{Io}
-use Rattle.riot6532.specs.declared.Answer.{Answer}
-use Rattle.riot6532.specs.declared.IoAnswer.{IoAnswer}
-use Rattle.riot6532.specs.declared.Reading.{Reading}
 use Rattle.riot6532.proofs.Lawful.{lawful, ticks}
 use Rattle.riot6532.proofs.Watched.{watched}
 
@@ -44,13 +43,8 @@ largest_forecast_lem = Chips.largest_forecast_lem chip lawful clocked ticks line
 pub power_up_reset : Demands.PowerUpReset
 power_up_reset = refl
 
--- an answer without its RAM
-apart : Answer → IoAnswer
-apart a = record { refusal = a.refusal; «data» = a.«data»; irq = a.irq; pa = a.pa; pb = a.pb; io = a.riot.io }
-
 pub whole_one : Demands.WholeOne
-unfolding apart
-whole_one m n r s e = (ap (λ (a : Answer). a.riot.ram) e, ap apart e)
+whole_one m n r s e = grind (arith, nat_tests)
 
 -- what holds with any RAM beside it holds with an empty one
 pub forecast_shortened_io : Demands.ForecastShortenedIo
@@ -66,9 +60,7 @@ pub forecast_bound_io : Demands.ForecastBoundIo
 forecast_bound_io m io f r d reached t e = largest_forecast_lem.forecast_bound (beside m io) f (whole m r) d reached (t m) e
 
 pub whole_reading_one : Demands.WholeReadingOne
-unfolding apart
-whole_reading_one m n r s e =
-    (ap (λ (x : Reading). x.answer.riot.ram) e, ap (λ (x : Reading). record { cleared = x.cleared; answer = apart x.answer }) e)
+whole_reading_one m n r s e = grind (arith, nat_tests)
 
 pub read_answers : Demands.ReadAnswers
 unfolding reading_of
@@ -91,4 +83,4 @@ cleared_by_bit a k v =
 
 pub refused_clears_none : Demands.RefusedClearsNone
 unfolding reading_of
-refused_clears_none a v z = Chips.refused_clears chip lawful flags (Read a) v z
+refused_clears_none a v r z = Chips.refused_clears chip lawful flags (Read a) v r z

@@ -1,10 +1,10 @@
 -- What every call keeps of the timer.
 use mathlib.Core.Path.{◌≡◌}
-use mathlib.Core.Bool.{Bool, true, false, not}
-use Prim.Native.Nat.{ℕ, ◌%◌, ◌<◌}
-use Rattle.clocks.specs.Bits.{bit}
+use mathlib.Core.Bool.{Bool, true, false}
+use Prim.Native.Nat.{ℕ, ◌<◌}
+use native.Mathlib.Omega.{arith}
+use Rattle.std.proofs.lemmas.Bool.Decides.{nat_tests}
 use Rattle.clocks.proofs.Clocks.{after_keeps}
-use Rattle.clocks.proofs.Tests.{picked}
 use Rattle.calls.specs.Calls.{Typed32}
 use Rattle.calls.specs.declared.Call32.{Call32}
 use Rattle.calls.specs.declared.Call32.TheVariants.{Reset, Write, Read, Pins, Run, Forecast}
@@ -16,7 +16,6 @@ use Rattle.riot6532.specs.Record.{well_formed}
 use Rattle.riot6532.specs.Access.{io_written, write_of, io_read, read_of}
 use Rattle.riot6532.specs.Clock.{clock_of}
 use Rattle.riot6532.specs.Chip.{leaves_of}
-use Rattle.riot6532.specs.declared.Io.{Io}
 use Rattle.riot6532.specs.declared.Riot.{Riot}
 
 -- what a load gives, a clock keeps and a change of flag and enable keeps, every call keeps
@@ -29,17 +28,11 @@ module _ (P : Timer → Type 0)
 
   read_kept : (a : ℕ) (v : Riot) → Of v → Of (read_of a v)
   unfolding read_of io_read
-  read_kept a v p =
-      picked Of (not (bit 7 a)) p
-      (picked (λ (io : Io). P io.timer) (not (bit 2 a)) p
-      (picked (λ (io : Io). P io.timer) (not (bit 0 a)) (mark false (bit 3 a) v.io.timer p) p))
+  read_kept a v p = grind (arith, nat_tests)
 
   write_kept : (a x : ℕ) (v : Riot) → x < 256 → Of v → Of (write_of a x v)
   unfolding write_of io_written
-  write_kept a x v h p =
-      picked Of (not (bit 7 a)) p
-      (picked (λ (io : Io). P io.timer) (not (bit 2 a)) p
-      (picked (λ (io : Io). P io.timer) (bit 4 a) (load (a % 4) x (bit 3 a) h) p))
+  write_kept a x v h p = grind (arith, nat_tests)
 
   leaves_kept : (c : Call32) (v : Riot) → Typed32 c → Of v → Of (leaves_of c v)
   leaves_kept Reset v h p = mark false false v.io.timer p

@@ -1,7 +1,7 @@
 -- What the 6532 shows of itself, from which it has the laws of every chip.
 use mathlib.Core.Path.{refl}
 use lib.Dec.{lit≤}
-use Rattle.chips.proofs.Chips.{Lawful, Ticks, operands_none}
+use Rattle.chips.proofs.Chips.{Lawful, Ticks}
 use Rattle.interval.proofs.Sound as Timers
 use Rattle.riot6532.specs.Chip.{chip, clocked}
 use Rattle.riot6532.proofs.Keeps.{leaves_well}
@@ -9,11 +9,11 @@ use Rattle.riot6532.proofs.Keeps.{leaves_well}
 pub lawful : Lawful chip
 lawful =
     record {
-      number_accepted = λ d v. refl;
-      number_refused = λ n v. refl;
+      refusal_accepted = λ d v. refl;
+      refusal_refused = λ r v. refl;
       left_accepted = λ d v. refl;
-      left_refused = λ n v. refl;
-      other = λ c v. operands_none;
+      left_refused = λ r v. refl;
+      other = λ c v. tt;
       starts = refl;
       keeps = λ c v t n w. leaves_well c v t w;
     }

@@ -1,16 +1,17 @@
 -- Clocks move only the timer; so the timer says when the interrupt line is asserted.
 use Rattle.std.specs.Prelude.{if◌then◌else◌}
 use mathlib.Core.Path.{◌≡◌, refl, sym, ap, ap₂, ◌∙◌}
-use mathlib.Core.Bool.{Bool, true, false, ◌&&◌, ◌||◌, or-true}
-use mathlib.Core.Logic.{◌↔◌, inl, inr, ⊎_elim}
+use mathlib.Core.Bool.{Bool, true, false, ◌&&◌, ◌||◌}
+use mathlib.Core.Logic.{◌↔◌}
 use Prim.Native.Nat.{ℕ}
 use lib.Dec.{leb-zero}
+use native.Mathlib.Omega.{arith}
+use Rattle.std.proofs.lemmas.Bool.Decides.{nat_tests}
 use Rattle.clocks.specs.Clocks.{after}
 use Rattle.clocks.specs.Forecasts.{comes}
 use Rattle.clocks.specs.declared.Forecast.{Forecast}
 use Rattle.clocks.specs.declared.Forecast.TheVariants.{Never, In}
 use Rattle.clocks.proofs.Clocks.{part_after, after_keeps}
-use Rattle.clocks.proofs.Tests.{both, either}
 use Rattle.clocks.proofs.Forecasts.{gate_comes, sooner_comes}
 use Rattle.interval.specs.Timer.{well_timed, clocked, Due}
 use Rattle.interval.specs.declared.Timer.{Timer}
@@ -55,11 +56,4 @@ line_due v f w d k =
 
 -- the line's test, both ways
 pub raised : (io : Io) → (irq_of io ≡ true) ↔ Raised io
-raised io = (there, back)
-  where
-    there : irq_of io ≡ true → Raised io
-    there h = ⊎_elim (λ x. inl (both io.timer.flag io.timer.enable x)) (λ y. inr (both io.pa7.flag io.pa7.enable y)) (either (io.timer.flag && io.timer.enable) (io.pa7.flag && io.pa7.enable) h)
-
-    back : Raised io → irq_of io ≡ true
-    back (inl x) = rw (x.0, x.1)
-    back (inr y) = rw (y.0, y.1) (or-true (io.timer.flag && io.timer.enable))
+raised io = grind (arith, nat_tests)

@@ -1,14 +1,15 @@
 -- What the 6532 shows of its interrupt line: when it is asserted, and how far ahead that can be.
-use Rattle.std.specs.Prelude.{if◌then◌else◌}
 use mathlib.Core.Path.{◌≡◌, refl}
-use mathlib.Core.Bool.{true, ◌&&◌}
-use Prim.Native.Nat.{ℕ, ◌<◌, zero-le}
+use mathlib.Core.Bool.{true}
+use Prim.Native.Nat.{ℕ, ◌<◌}
 use lib.Dec.{lit<, lit≤}
+use native.Mathlib.Omega.{arith}
+use Rattle.std.proofs.lemmas.Bool.Decides.{nat_tests}
 use Rattle.clocks.specs.Bits.{bit}
 use Rattle.clocks.specs.Forecasts.{comes}
 use Rattle.clocks.specs.declared.Forecast.{Forecast}
-use Rattle.clocks.specs.declared.Forecast.TheVariants.{Never, In}
-use Rattle.clocks.proofs.Forecasts.{AtMost, most_gated, most_sooner}
+use Rattle.clocks.specs.declared.Forecast.TheVariants.{In}
+use Rattle.clocks.proofs.Forecasts.{AtMost}
 use Rattle.calls.specs.declared.Call32.TheVariants.{Write}
 use Rattle.chips.specs.Chips.{answer, line, Reached, at_power_up, by, Foretold}
 use Rattle.chips.proofs.Chips as Chips
@@ -35,11 +36,7 @@ tells v w = line_due v (due_of v.io.timer) w (due_is v.io.timer w)
 
 -- no later than the timer's flag is set
 ahead_most : (n : ℕ) (v : Riot) → AtMost n (due_of v.io.timer) → AtMost n (ahead v)
-ahead_most n v h =
-    let other = v.io.pa7.flag && v.io.pa7.enable in
-    most_sooner n (if v.io.timer.enable then due_of v.io.timer else Never) (if other then In 0 else Never)
-    (most_gated n v.io.timer.enable (due_of v.io.timer) h)
-    (most_gated n other (In 0) zero-le)
+ahead_most n v h = grind (arith, nat_tests)
 
 -- in a record with a reached timer no later than the largest forecast
 ahead_reached : (v : Riot) → well_formed v ≡ true → Interval.Reached v.io.timer → AtMost largest_forecast (ahead v)

@@ -1,9 +1,10 @@
 -- The 6532 as a chip: what it answers to each call.
-use Rattle.std.specs.Prelude.{false, List, ℕ}
+use Rattle.std.specs.Prelude.{false, List, ℕ, None, Some}
 use Rattle.clocks.specs.Clocks.{after}
 use Rattle.calls.specs.Calls.{Typed32}
 use Rattle.calls.specs.declared.Call32.{Call32}
 use Rattle.calls.specs.declared.Call32.TheVariants.{Reset, Write, Read, Pins, Run, Forecast}
+use Rattle.calls.specs.declared.Refusal.{Refusal}
 use Rattle.chips.specs.Chips.{Chip, Clocked, Lined, answer, cleared_by}
 use Rattle.ports.specs.Ports.{lines_of}
 use Rattle.riot6532.specs.Record.{well_formed, beside, power_up, reset_of}
@@ -15,8 +16,7 @@ use Rattle.riot6532.specs.declared.Io.{Io}
 use Rattle.riot6532.specs.declared.Riot.{Riot}
 use Rattle.riot6532.specs.declared.Answer.{Answer}
 use Rattle.riot6532.specs.declared.IoAnswer.{IoAnswer}
-use Rattle.riot6532.specs.declared.Reading.{Reading}
-use Rattle.riot6532.specs.declared.IoReading.{IoReading}
+use Rattle.chips.specs.declared.Reading.{Reading}
 
 -- the byte that a call reads, and the record that it leaves
 abbrev pub gives_of : Call32 → Riot → ℕ
@@ -37,11 +37,11 @@ leaves_of Forecast v = v
 
 -- what an accepted call shows, but for the RAM: the byte that it read, and the lines of what it leaves
 abbrev pub accepted_io : ℕ → Io → IoAnswer
-accepted_io d io = record { refusal = 0; «data» = d; irq = irq_of io; pa = lines_of io.a; pb = lines_of io.b; io = io }
+accepted_io d io = record { refusal = None; «data» = d; irq = irq_of io; pa = lines_of io.a; pb = lines_of io.b; io = io }
 
--- a refused call shows its number and nothing else, and hands back what it was given
-abbrev pub refused_io : ℕ → Io → IoAnswer
-refused_io n io = record { refusal = n; «data» = 0; irq = false; pa = 0; pb = 0; io = io }
+-- a refused call shows its refusal and nothing else, and hands back what it was given
+abbrev pub refused_io : Refusal → Io → IoAnswer
+refused_io r io = record { refusal = Some r; «data» = 0; irq = false; pa = 0; pb = 0; io = io }
 
 -- an answer with the RAM put to it
 abbrev pub whole : List ℕ → IoAnswer → Answer
@@ -58,8 +58,8 @@ whole m r =
 abbrev pub accepted : ℕ → Riot → Answer
 accepted d v = whole v.ram (accepted_io d v.io)
 
-abbrev pub refused : ℕ → Riot → Answer
-refused n v = whole v.ram (refused_io n v.io)
+abbrev pub refused : Refusal → Riot → Answer
+refused r v = whole v.ram (refused_io r v.io)
 
 -- no operand is refused
 abbrev pub chip : Chip
@@ -71,12 +71,12 @@ chip =
       Typed = Typed32;
       power_up = power_up;
       well = well_formed;
-      asks = λ c v. 0;
+      asks = λ c v. None;
       gives = gives_of;
       leaves = leaves_of;
       accepted = accepted;
       refused = refused;
-      number = λ r. r.refusal;
+      refusal = λ r. r.refusal;
       left = λ r. r.riot;
     }
 
@@ -104,9 +104,9 @@ abbrev pub flags : Riot → ℕ
 flags v = flags_of v.io
 
 -- a read: the mask of the flags that it cleared, and the answer to the call
-unfoldable pub reading_of : ℕ → Riot → Reading
+unfoldable pub reading_of : ℕ → Riot → Reading Answer
 reading_of a v = record { cleared = cleared_by chip flags (Read a) v; answer = answer chip (Read a) v }
 
 -- a reading with the RAM put to its answer
-abbrev pub whole_reading : List ℕ → IoReading → Reading
+abbrev pub whole_reading : List ℕ → Reading IoAnswer → Reading Answer
 whole_reading m r = record { cleared = r.cleared; answer = whole m r.answer }

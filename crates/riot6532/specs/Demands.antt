@@ -1,10 +1,11 @@
 -- What the three demands and the requests ask of the 6532 beyond the promise of each entry. proofs/Demands.antt has a proof of each statement, under its name in small letters.
-use Rattle.std.specs.Prelude.{◌≡◌, not, ◌&&◌, List, ℕ, ◌+◌, ◌≤◌}
+use Rattle.std.specs.Prelude.{◌≡◌, not, ◌&&◌, List, ℕ, ◌+◌, ◌≤◌, Some}
 use Rattle.clocks.specs.Bits.{bit}
 use Rattle.clocks.specs.Forecasts.{shortened}
 use Rattle.clocks.specs.declared.Forecast.{Forecast}
 use Rattle.clocks.specs.declared.Forecast.TheVariants.{In}
 use Rattle.calls.specs.declared.Call32.TheVariants.{Read}
+use Rattle.calls.specs.declared.Refusal.{Refusal}
 use Rattle.chips.specs.Chips
 use Rattle.chips.specs.Chips.{answer}
 use Rattle.riot6532.specs.Record.{beside, power_up, reset_of}
@@ -13,7 +14,7 @@ use Rattle.riot6532.specs.Chip.{chip, clocked, lined, largest_forecast, whole, r
 use Rattle.riot6532.specs.declared.Io.{Io}
 use Rattle.riot6532.specs.declared.Riot.{Riot}
 use Rattle.riot6532.specs.declared.IoAnswer.{IoAnswer}
-use Rattle.riot6532.specs.declared.IoReading.{IoReading}
+use Rattle.chips.specs.declared.Reading.{Reading}
 
 -- refusals, and well-formed records
 abbrev pub Answers : Type 0
@@ -72,7 +73,7 @@ WholeOne = (m n : List ℕ) (r s : IoAnswer) → whole m r ≡ whole n s → (m 
 
 -- and so do any two readings
 abbrev pub WholeReadingOne : Type 0
-WholeReadingOne = (m n : List ℕ) (r s : IoReading) → whole_reading m r ≡ whole_reading n s → (m ≡ n) × (r ≡ s)
+WholeReadingOne = (m n : List ℕ) (r s : Reading IoAnswer) → whole_reading m r ≡ whole_reading n s → (m ≡ n) × (r ≡ s)
 
 -- request 03: a read's answer, beside its mask, is that of the call
 abbrev pub ReadAnswers : Type 0
@@ -86,4 +87,4 @@ ClearedByBit =
 
 -- the mask of a refused read is 0
 abbrev pub RefusedClearsNone : Type 0
-RefusedClearsNone = (a : ℕ) (v : Riot) → ((reading_of a v).answer.refusal ≡ 0 → ⊥) → (reading_of a v).cleared ≡ 0
+RefusedClearsNone = (a : ℕ) (v : Riot) (r : Refusal) → (reading_of a v).answer.refusal ≡ Some r → (reading_of a v).cleared ≡ 0

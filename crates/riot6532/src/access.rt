@@ -3,24 +3,24 @@ ghost use Rattle.std.specs.Prelude.{◌≡◌, ◌%◌};
 ghost use Rattle.riot6532.specs.Access.{port_written, io_written, port_data, flags_of, io_data, io_read};
 
 use crate::Io;
-use clocks::{bit, choose8, with_mask};
+use clocks::{bit, with_mask};
 use interval::Timer;
 
 impl Io {
     fn port_written(mut self, k: u8, value: u8) -> Io
         ensures { result ≡ port_written k value self }
     {
-        let output_a = choose8(k == 0, value, self.a.output);
-        let ddr_a = choose8(k == 1, value, self.a.ddr);
-        let output_b = choose8(k == 2, value, self.b.output);
-        let ddr_b = choose8(k == 3, value, self.b.ddr);
-        self.a.output = output_a;
-        self.a.ddr = ddr_a;
-        self.b.output = output_b;
-        self.b.ddr = ddr_b;
+        match k {
+            0 => self.a.output = value,
+            1 => self.a.ddr = value,
+            2 => self.b.output = value,
+            3 => self.b.ddr = value,
+            _ => (),
+        }
         self
     }
 
+    #[tactic(auto, unfolding(crate::specs::Access::io_written))]
     pub(crate) fn written(mut self, address: u8, value: u8) -> Io
         ensures { result ≡ io_written address value self }
     {
@@ -31,27 +31,23 @@ impl Io {
             self.timer = Timer::load(address % 4, value, bit(3, address));
             return self;
         }
-        let enable = bit(1, address);
-        let rising = bit(0, address);
-        self.pa7.enable = enable;
-        self.pa7.rising = rising;
+        self.pa7.enable = bit(1, address);
+        self.pa7.rising = bit(0, address);
         self
     }
 
     fn port_data(self, k: u8) -> u8
         ensures { result ≡ port_data k self }
     {
-        choose8(
-            k == 0,
-            self.a.lines(),
-            choose8(
-                k == 1,
-                self.a.ddr,
-                choose8(k == 2, self.b.lines(), self.b.ddr),
-            ),
-        )
+        match k {
+            0 => self.a.lines(),
+            1 => self.a.ddr,
+            2 => self.b.lines(),
+            _ => self.b.ddr,
+        }
     }
 
+    #[tactic(auto, unfolding(crate::specs::Access::flags_of, clocks::specs::Bits::with_bit))]
     pub(crate) fn flags(self) -> u8
         ensures { result ≡ flags_of self }
     {
@@ -59,6 +55,7 @@ impl Io {
     }
 
     // What a read gives, of the record before it.
+    #[tactic(auto, unfolding(crate::specs::Access::io_data))]
     pub(crate) fn data(self, address: u8) -> u8
         ensures { result ≡ io_data address self }
     {
@@ -73,6 +70,7 @@ impl Io {
     }
 
     // What a read leaves.
+    #[tactic(auto, unfolding(crate::specs::Access::io_read))]
     pub(crate) fn after_read(mut self, address: u8) -> Io
         ensures { result ≡ io_read address self }
     {
@@ -84,8 +82,7 @@ impl Io {
             return self;
         }
         self.timer.flag = false;
-        let enable = bit(3, address);
-        self.timer.enable = enable;
+        self.timer.enable = bit(3, address);
         self
     }
 }

@@ -5,16 +5,17 @@ ghost use Rattle.interval.specs.Timer.{well_timed};
 ghost use Rattle.riot6532.specs.Record.{beside};
 ghost use Rattle.riot6532.specs.Chip.{chip, clocked, lined, accepted_io, refused_io, whole, reading_of, whole_reading};
 
-use crate::{Io, IoAnswer, IoOutlook, IoReading};
-use calls::Call32;
-use clocks::{Forecast, bit, choose8};
+use crate::{Io, IoAnswer, IoOutlook, IoReading, Pa7};
+use calls::{Call32, Refusal};
+use clocks::{Forecast, bit, choose};
 
+#[tactic(auto, unfolding(chips::specs::Chips::answer))]
 impl Io {
     fn accepted(self, data: u8) -> IoAnswer
         ensures { result ≡ accepted_io «data» self }
     {
         IoAnswer {
-            refusal: 0,
+            refusal: None,
             data,
             irq: self.irq(),
             pa: self.a.lines(),
@@ -23,11 +24,11 @@ impl Io {
         }
     }
 
-    fn refused(self, number: u8) -> IoAnswer
-        ensures { result ≡ refused_io number self }
+    fn refused(self, refusal: Refusal) -> IoAnswer
+        ensures { result ≡ refused_io refusal self }
     {
         IoAnswer {
-            refusal: number,
+            refusal: Some(refusal),
             data: 0,
             irq: false,
             pa: 0,
@@ -37,66 +38,59 @@ impl Io {
     }
 
     // No operand of this chip is refused.
-    fn refusal(self) -> u8
-        ensures { result ≡ (if well_timed self.timer then 0 else 1) }
+    fn refusal(self) -> Option<Refusal>
+        ensures { result ≡ (if well_timed self.timer then None else Some Refusal.IllFormed) }
     {
-        choose8(self.timer.well(), 0, 1)
+        choose(self.timer.well(), None, Some(Refusal::IllFormed))
     }
 
     pub fn reset(mut self) -> IoAnswer
         ensures { (m : List ℕ) → whole m result ≡ answer chip Call32.Reset (beside m self) }
     {
-        let number = self.refusal();
-        if number != 0 {
-            return self.refused(number);
+        if let Some(refusal) = self.refusal() {
+            return self.refused(refusal);
         }
         self.a = self.a.silent();
         self.b = self.b.silent();
         self.timer.flag = false;
         self.timer.enable = false;
-        self.pa7.flag = false;
-        self.pa7.enable = false;
-        self.pa7.rising = false;
+        self.pa7 = Pa7::default();
         self.accepted(0)
     }
 
+    #[tactic(auto, using(clocks::proofs::Bits::gone_none), unfolding(chips::specs::Chips::answer, crate::specs::Access::data_of, crate::specs::Access::read_of, crate::specs::Chip::reading_of))]
+    // In what it cleared the timer's flag is bit 7, PA7's bit 6.
     pub fn read(self, ram: &[u8; 128], address: u8) -> IoReading
         ensures { whole_reading ram.now result ≡ reading_of address (beside ram.now self) }
     {
-        let number = self.refusal();
-        if number != 0 {
+        if let Some(refusal) = self.refusal() {
             return IoReading {
                 cleared: 0,
-                answer: self.refused(number),
+                answer: self.refused(refusal),
             };
         }
         if !bit(7, address) {
-            let i = (address % 128) as usize;
             return IoReading {
                 cleared: 0,
-                answer: self.accepted(ram[i]),
+                answer: self.accepted(ram[address as usize % 128]),
             };
         }
-        let data = self.data(address);
         let left = self.after_read(address);
-        let before = self.flags();
-        let after = left.flags();
         IoReading {
-            cleared: clocks::gone(before, after),
-            answer: left.accepted(data),
+            cleared: clocks::gone(self.flags(), left.flags()),
+            answer: left.accepted(self.data(address)),
         }
     }
 
+    #[tactic(auto, unfolding(chips::specs::Chips::answer, crate::specs::Access::write_of))]
     pub fn write(self, ram: &mut [u8; 128], address: u8, value: u8) -> IoAnswer
         ensures { whole ram.new result ≡ answer chip (Call32.Write address value) (beside ram.old self) }
     {
-        let number = self.refusal();
-        if number != 0 {
-            return self.refused(number);
+        if let Some(refusal) = self.refusal() {
+            return self.refused(refusal);
         }
         if !bit(7, address) {
-            let i = (address % 128) as usize;
-            ram[i] = value;
+            ram[address as usize % 128] = value;
             return self.accepted(0);
         }
         self.written(address, value).accepted(0)
@@ -105,24 +99,22 @@ impl Io {
     pub fn pins(mut self, pa: u8, pb: u8) -> IoAnswer
         ensures { (m : List ℕ) → whole m result ≡ answer chip (Call32.Pins pa pb) (beside m self) }
     {
-        let number = self.refusal();
-        if number != 0 {
-            return self.refused(number);
+        if let Some(refusal) = self.refusal() {
+            return self.refused(refusal);
         }
         let edge = ports::edge(self.pa7.rising, bit(7, self.a.outside), bit(7, pa));
-        let flag = self.pa7.flag | edge;
-        self.pa7.flag = flag;
+        self.pa7.flag |= edge;
         self.a.outside = pa;
         self.b.outside = pb;
         self.accepted(0)
     }
 
+    #[tactic(auto, unfolding(chips::specs::Chips::answer, clocks::specs::Clocks::after))]
     pub fn clock(mut self) -> IoAnswer
         ensures { (m : List ℕ) → whole m result ≡ answer chip (Call32.Run 1) (beside m self) }
     {
-        let number = self.refusal();
-        if number != 0 {
-            return self.refused(number);
+        if let Some(refusal) = self.refusal() {
+            return self.refused(refusal);
         }
         self.timer = self.timer.clock();
         self.accepted(0)
@@ -131,9 +123,8 @@ impl Io {
     pub fn run(mut self, n: u32) -> IoAnswer
         ensures { (m : List ℕ) → whole m result ≡ answer chip (Call32.Run n) (beside m self) }
     {
-        let number = self.refusal();
-        if number != 0 {
-            return self.refused(number);
+        if let Some(refusal) = self.refusal() {
+            return self.refused(refusal);
         }
         self.timer = self.timer.run(n);
         self.accepted(0)
@@ -142,11 +133,10 @@ impl Io {
     pub fn forecast(self) -> IoOutlook
         ensures { (m : List ℕ) → Foretold chip clocked lined (beside m self) result.forecast (whole m result.answer) }
     {
-        let number = self.refusal();
-        if number != 0 {
+        if let Some(refusal) = self.refusal() {
             return IoOutlook {
                 forecast: Forecast::In(0),
-                answer: self.refused(number),
+                answer: self.refused(refusal),
             };
         }
         IoOutlook {

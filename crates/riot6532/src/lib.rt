@@ -4,10 +4,9 @@
 ghost use Rattle.std.specs.Prelude.{◌≡◌};
 ghost use Rattle.chips.specs.Chips.{answer, Foretold};
 ghost use Rattle.riot6532.specs.Record.{power_up};
-ghost use Rattle.riot6532.specs.Chip.{chip, clocked, lined, largest_forecast, whole as whole_of, reading_of, whole_reading};
+ghost use Rattle.riot6532.specs.Chip.{chip, clocked, lined, largest_forecast, whole as whole_of, reading_of};
 
-use calls::Call32;
-use clocks::Forecast;
+use calls::{Call32, Refusal};
 use interval::Timer;
 use ports::Port;
 
@@ -16,7 +15,7 @@ mod entries;
 mod signals;
 
 // The edge detector on PA7: its flag, its enable, and the choice of the rising edge.
-#[derive(Clone, Copy)]
+#[derive(Clone, Copy, Default)]
 pub struct Pa7 {
     pub flag: bool,
     pub enable: bool,
@@ -38,10 +37,10 @@ pub struct Riot {
     pub io: Io,
 }
 
-// The answer to a call: its refusal's number or 0, the byte that it read, the lines and the record as it left them.
+// The answer to a call: what it was refused for, the byte that it read, the lines and the record as it left them.
 #[derive(Clone, Copy)]
 pub struct Answer {
-    pub refusal: u8,
+    pub refusal: Option<Refusal>,
     pub data: u8,
     pub irq: bool,
     pub pa: u8,
@@ -49,24 +48,10 @@ pub struct Answer {
     pub riot: Riot,
 }
 
-// What a read gives back: `cleared` has the flags that it found set and left clear, the timer's in bit 7 and PA7's in bit 6.
-#[derive(Clone, Copy)]
-pub struct Reading {
-    pub cleared: u8,
-    pub answer: Answer,
-}
-
-// What a forecast gives back.
-#[derive(Clone, Copy)]
-pub struct Outlook {
-    pub forecast: Forecast,
-    pub answer: Answer,
-}
-
-// The same without the RAM.
+// The same without the RAM, under a name of its own: what `riot` names has the RAM.
 #[derive(Clone, Copy)]
 pub struct IoAnswer {
-    pub refusal: u8,
+    pub refusal: Option<Refusal>,
     pub data: u8,
     pub irq: bool,
     pub pa: u8,
@@ -74,42 +59,26 @@ pub struct IoAnswer {
     pub io: Io,
 }
 
-#[derive(Clone, Copy)]
-pub struct IoReading {
-    pub cleared: u8,
-    pub answer: IoAnswer,
-}
+pub type Reading = chips::Reading<Answer>;
 
-#[derive(Clone, Copy)]
-pub struct IoOutlook {
-    pub forecast: Forecast,
-    pub answer: IoAnswer,
-}
+pub type Outlook = chips::Outlook<Answer>;
+
+pub type IoReading = chips::Reading<IoAnswer>;
+
+pub type IoOutlook = chips::Outlook<IoAnswer>;
 
 impl IoAnswer {
+    // No From: the RAM comes from beside it.
     fn whole(self, ram: [u8; 128]) -> Answer
         ensures { result ≡ whole_of ram self }
     {
-        let io = self.io;
         Answer {
             refusal: self.refusal,
             data: self.data,
             irq: self.irq,
             pa: self.pa,
             pb: self.pb,
-            riot: Riot { ram, io },
-        }
-    }
-}
-
-impl IoReading {
-    fn whole(self, ram: [u8; 128]) -> Reading
-        ensures { result ≡ whole_reading ram self }
-    {
-        let cleared = self.cleared;
-        Reading {
-            cleared,
-            answer: self.answer.whole(ram),
+            riot: Riot { ram, io: self.io },
         }
     }
 }
@@ -134,11 +103,7 @@ impl Riot {
                 a: Port::power_up(),
                 b: Port::power_up(),
                 timer: Timer::power_up(),
-                pa7: Pa7 {
-                    flag: false,
-                    enable: false,
-                    rising: false,
-                },
+                pa7: Pa7::default(),
             },
         }
     }
@@ -146,15 +111,18 @@ impl Riot {
     pub fn reset(self) -> Answer
         ensures { result ≡ answer chip Call32.Reset self }
     {
-        let ram = self.ram;
-        self.io.reset().whole(ram)
+        self.io.reset().whole(self.ram)
     }
 
+    // In what it cleared the timer's flag is bit 7, PA7's bit 6.
     pub fn read(self, address: u8) -> Reading
         ensures { result ≡ reading_of address self }
     {
-        let ram = self.ram;
-        self.io.read(&ram, address).whole(ram)
+        let IoReading { cleared, answer } = self.io.read(&self.ram, address);
+        Reading {
+            cleared,
+            answer: answer.whole(self.ram),
+        }
     }
 
     pub fn write(self, address: u8, value: u8) -> Answer
@@ -167,34 +135,29 @@ impl Riot {
     pub fn pins(self, pa: u8, pb: u8) -> Answer
         ensures { result ≡ answer chip (Call32.Pins pa pb) self }
     {
-        let ram = self.ram;
-        self.io.pins(pa, pb).whole(ram)
+        self.io.pins(pa, pb).whole(self.ram)
     }
 
     pub fn clock(self) -> Answer
         ensures { result ≡ answer chip (Call32.Run 1) self }
     {
-        let ram = self.ram;
-        self.io.clock().whole(ram)
+        self.io.clock().whole(self.ram)
     }
 
     // n clocks, in a number of steps that does not grow with n.
     pub fn run(self, n: u32) -> Answer
         ensures { result ≡ answer chip (Call32.Run n) self }
     {
-        let ram = self.ram;
-        self.io.run(n).whole(ram)
+        self.io.run(n).whole(self.ram)
     }
 
     pub fn forecast(self) -> Outlook
         ensures { Foretold chip clocked lined self result.forecast result.answer }
     {
-        let ram = self.ram;
-        let shown = self.io.forecast();
-        let forecast = shown.forecast;
+        let IoOutlook { forecast, answer } = self.io.forecast();
         Outlook {
             forecast,
-            answer: shown.answer.whole(ram),
+            answer: answer.whole(self.ram),
         }
     }
 }

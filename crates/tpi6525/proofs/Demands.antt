@@ -1,12 +1,14 @@
 -- The statements of specs/Demands.antt, proved.
+use Rattle.std.specs.Prelude.{None}
 use mathlib.Core.Path.{◌≡◌, refl, sym, ap, ◌∙◌}
 use mathlib.Core.Bool.{true, false, not, ◌&&◌, ◌||◌, and-true, or-false}
 use mathlib.Core.Logic.{◌↔◌}
 use Prim.Native.Nat.{ℕ}
-use native.Mathlib.Omega.{arith}
 use Rattle.clocks.specs.Bits.{bit}
 use Rattle.clocks.proofs.Bits.{bit_none}
+use Rattle.clocks.proofs.Options.{none_some}
 use Rattle.calls.specs.declared.Call25.TheVariants.{Write, Read, Run}
+use Rattle.calls.specs.declared.Refusal.TheVariants.{IllFormed}
 use Rattle.chips.specs.Chips.{answer}
 use Rattle.chips.proofs.Chips
 use Rattle.chips.proofs.Chips.{accepts_well, by_refusal}
@@ -32,16 +34,16 @@ runs = Chips.runs chip lawful clocked ticks
 -- a run of n clocks has the answer of a run of none, by the definition
 pub still : Demands.Still
 unfolding answer
-still n v = (by_refusal chip lawful (Run n) v (λ r. r.tpi ≡ v) (λ w. refl) (λ w z. refl) (λ w z. refl), refl)
+still n v = (by_refusal chip lawful (Run n) v (λ r. r.tpi ≡ v) (λ w. refl) (λ r w z. refl) (λ w z. refl), refl)
 
 pub power_up_reset : Demands.PowerUpReset
 power_up_reset = refl
 
 pub interrupt_exact : Demands.InterruptExact
 interrupt_exact c v =
-    by_refusal chip lawful c v (λ r. r.refusal ≡ 0 → (r.irq ≡ true) ↔ RaisedIn r.tpi)
-    (λ w z. absurd (omega (arith, z)))
-    (λ w n z. absurd (n z))
+    by_refusal chip lawful c v (λ r. r.refusal ≡ None → (r.irq ≡ true) ↔ RaisedIn r.tpi)
+    (λ w z. absurd (none_some IllFormed (sym z)))
+    (λ r w n z. absurd (none_some r (sym z)))
     (λ w n z. let u = chip.leaves c v in Inputs.asserted_exact u.cr u.c.ddr u.inputs (leaves_well c v w))
 
 -- what a read of the active interrupt register shows of a well-formed record
@@ -58,14 +60,14 @@ air_all v k w m p = rw (air_is v w) (Inputs.shows_all v.cr v.c.ddr v.inputs k w 
 pub air_none : Demands.AirNone
 unfolding data_of
 air_none v m =
-    by_refusal chip lawful (Read 7) v (λ r. r.«data» ≡ 0) (λ w. refl) (λ w z. refl)
+    by_refusal chip lawful (Read 7) v (λ r. r.«data» ≡ 0) (λ w. refl) (λ r w z. refl)
     (λ w z. Inputs.shows_none v.cr v.c.ddr v.inputs m)
 
 -- what holds of the read that takes what it shows, and of one that shows 0 and changes nothing, holds of every read
 module _ (v : Tpi) (P : ℕ → Tpi → Type 0) where
   air_read_lem : P (air_of v) (with_inputs (taken (air_of v) v.inputs) v) → P 0 v → P (air_read v) (answer chip (Read 7) v).tpi
   unfolding data_of read_of
-  air_read_lem p q = by_refusal chip lawful (Read 7) v (λ r. P r.«data» r.tpi) (λ w. q) (λ w z. q) (λ w z. p)
+  air_read_lem p q = by_refusal chip lawful (Read 7) v (λ r. P r.«data» r.tpi) (λ w. q) (λ r w z. q) (λ w z. p)
 
 pub air_taken : Demands.AirTaken
 air_taken v =
@@ -90,7 +92,7 @@ air_idle v =
 pub air_releases : Demands.AirReleases
 unfolding read_of
 air_releases v =
-    by_refusal chip lawful (Read 7) v (λ r. r.irq ≡ false) (λ w. refl) (λ w z. refl)
+    by_refusal chip lawful (Read 7) v (λ r. r.irq ≡ false) (λ w. refl) (λ r w z. refl)
     (λ w z. Inputs.taken_releases v.cr v.c.ddr v.inputs w)
 
 pub air_ends : Demands.AirEnds
@@ -101,7 +103,7 @@ air_ends v x w = ap (λ (r : Answer). r.tpi) (accepts_well chip lawful (Write 7 
 other_leaves : (v : Tpi) (r x : ℕ) → inputs_after r x v ≡ v.inputs → (answer chip (Write r x) v).tpi.inputs ≡ v.inputs
 unfolding write_of
 other_leaves v r x e =
-    by_refusal chip lawful (Write r x) v (λ r. r.tpi.inputs ≡ v.inputs) (λ w. refl) (λ w z. refl) (λ w z. e)
+    by_refusal chip lawful (Write r x) v (λ r. r.tpi.inputs ≡ v.inputs) (λ w. refl) (λ r w z. refl) (λ w z. e)
 
 pub control_leaves : Demands.ControlLeaves
 unfolding inputs_after

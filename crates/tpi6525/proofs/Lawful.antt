@@ -6,7 +6,7 @@ use Rattle.clocks.proofs.Tests.{picked}
 use Rattle.clocks.proofs.Clocks.{after_still}
 use Rattle.calls.specs.declared.Call25.{Call25}
 use Rattle.calls.specs.declared.Call25.TheVariants.{Reset, Write, Read, Pins, Run}
-use Rattle.chips.proofs.Chips.{Operands, operands_none, Lawful, Ticks}
+use Rattle.chips.proofs.Chips.{Operands, Lawful, Ticks}
 use Rattle.inputs.specs.Inputs.{well_inputs}
 use Rattle.inputs.specs.declared.Inputs.{Inputs}
 use Rattle.inputs.proofs.Demands.{stays_well}
@@ -16,11 +16,11 @@ use Rattle.tpi6525.specs.Chip.{asks_of, leaves_of, chip, clocked}
 use Rattle.tpi6525.specs.declared.Tpi.{Tpi}
 
 operands : (c : Call25) (v : Tpi) → Operands (asks_of c v)
-operands Reset v = operands_none
-operands (Write r x) v = picked Operands (ltb 7 r) (λ z. lit≤ tt) operands_none
-operands (Read r) v = picked Operands (ltb 7 r) (λ z. lit≤ tt) operands_none
-operands (Pins pa pb pc) v = operands_none
-operands (Run n) v = operands_none
+operands Reset v = tt
+operands (Write r x) v = picked Operands (ltb 7 r) (lit≤ tt) tt
+operands (Read r) v = picked Operands (ltb 7 r) (lit≤ tt) tt
+operands (Pins pa pb pc) v = tt
+operands (Run n) v = tt
 
 pub leaves_well : (c : Call25) (v : Tpi) → well_formed v ≡ true → well_formed (leaves_of c v) ≡ true
 unfolding read_of write_of inputs_after
@@ -37,10 +37,10 @@ leaves_well (Run n) v w = w
 pub lawful : Lawful chip
 lawful =
     record {
-      number_accepted = λ d v. refl;
-      number_refused = λ n v. refl;
+      refusal_accepted = λ d v. refl;
+      refusal_refused = λ r v. refl;
       left_accepted = λ d v. refl;
-      left_refused = λ n v. refl;
+      left_refused = λ r v. refl;
       other = operands;
       starts = refl;
       keeps = λ c v t n w. leaves_well c v w;

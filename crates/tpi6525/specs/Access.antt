@@ -1,5 +1,7 @@
 -- The eight registers: what is refused, what a read gives and leaves, and what a write leaves.
-use Rattle.std.specs.Prelude.{Bool, not, ◌&&◌, ℕ, eqb, ltb, if◌then◌else◌}
+use Rattle.std.specs.Prelude.{Bool, not, ◌&&◌, ℕ, eqb, ltb, if◌then◌else◌, Option, None, Some}
+use Rattle.calls.specs.declared.Refusal.{Refusal}
+use Rattle.calls.specs.declared.Refusal.TheVariants.{NoRegister}
 use Rattle.inputs.specs.Inputs.{interrupts, taken, ended, kept}
 use Rattle.inputs.specs.declared.Inputs.{Inputs}
 use Rattle.ports.specs.Ports.{lines_of}
@@ -7,9 +9,9 @@ use Rattle.tpi6525.specs.Record.{with_inputs}
 use Rattle.tpi6525.specs.Signals.{air_of, lines_c}
 use Rattle.tpi6525.specs.declared.Tpi.{Tpi}
 
--- a register above 7 is refused with 3
-abbrev pub register_asks : ℕ → ℕ
-register_asks r = if ltb 7 r then 3 else 0
+-- there is no register above 7
+abbrev pub register_asks : ℕ → Option Refusal
+register_asks r = if ltb 7 r then Some NoRegister else None
 
 -- ---- reads
 

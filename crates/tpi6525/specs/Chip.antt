@@ -1,8 +1,9 @@
 -- The 6525 as a chip: what each call asks for, gives and leaves, and what an answer shows.
-use Rattle.std.specs.Prelude.{false, ℕ}
+use Rattle.std.specs.Prelude.{false, ℕ, Option, None, Some}
 use Rattle.calls.specs.Calls.{Typed25}
 use Rattle.calls.specs.declared.Call25.{Call25}
 use Rattle.calls.specs.declared.Call25.TheVariants.{Reset, Write, Read, Pins, Run}
+use Rattle.calls.specs.declared.Refusal.{Refusal}
 use Rattle.chips.specs.Chips.{Chip, Clocked}
 use Rattle.ports.specs.Ports.{lines_of}
 use Rattle.tpi6525.specs.Record.{well_formed, power_up, reset_of}
@@ -12,13 +13,13 @@ use Rattle.tpi6525.specs.Pins.{pins_of}
 use Rattle.tpi6525.specs.declared.Tpi.{Tpi}
 use Rattle.tpi6525.specs.declared.Answer.{Answer}
 
--- the refusal that the operands of a call ask for, 0 for none
-abbrev pub asks_of : Call25 → Tpi → ℕ
-asks_of Reset v = 0
+-- what the operands of a call are refused for
+abbrev pub asks_of : Call25 → Tpi → Option Refusal
+asks_of Reset v = None
 asks_of (Write r x) v = register_asks r
 asks_of (Read r) v = register_asks r
-asks_of (Pins pa pb pc) v = 0
-asks_of (Run n) v = 0
+asks_of (Pins pa pb pc) v = None
+asks_of (Run n) v = None
 
 -- the byte that a call reads, and the record that it leaves; a run, of however many clocks, changes nothing
 abbrev pub gives_of : Call25 → Tpi → ℕ
@@ -39,7 +40,7 @@ leaves_of (Run n) v = v
 abbrev pub accepted : ℕ → Tpi → Answer
 accepted d v =
     record {
-      refusal = 0;
+      refusal = None;
       «data» = d;
       irq = irq_of v;
       pa = lines_of v.a;
@@ -48,9 +49,9 @@ accepted d v =
       tpi = v;
     }
 
--- a refused call shows its number and nothing else, and hands the record back
-abbrev pub refused : ℕ → Tpi → Answer
-refused n v = record { refusal = n; «data» = 0; irq = false; pa = 0; pb = 0; pc = 0; tpi = v }
+-- a refused call shows its refusal and nothing else, and hands the record back
+abbrev pub refused : Refusal → Tpi → Answer
+refused r v = record { refusal = Some r; «data» = 0; irq = false; pa = 0; pb = 0; pc = 0; tpi = v }
 
 abbrev pub chip : Chip
 chip =
@@ -66,7 +67,7 @@ chip =
       leaves = leaves_of;
       accepted = accepted;
       refused = refused;
-      number = λ r. r.refusal;
+      refusal = λ r. r.refusal;
       left = λ r. r.tpi;
     }
 

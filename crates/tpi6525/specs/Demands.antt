@@ -1,5 +1,5 @@
 -- What the demands and request 01 ask of the 6525 beyond the promise of each entry. proofs/Demands.antt has a proof of each statement, under its name in small letters.
-use Rattle.std.specs.Prelude.{◌≡◌, true, false, not, ◌&&◌, ◌||◌, ◌↔◌, ℕ, ◌<◌}
+use Rattle.std.specs.Prelude.{◌≡◌, true, false, not, ◌&&◌, ◌||◌, ◌↔◌, ℕ, ◌<◌, None}
 use Rattle.clocks.specs.Bits.{bit}
 use Rattle.calls.specs.declared.Call25.{Call25}
 use Rattle.calls.specs.declared.Call25.TheVariants.{Write, Read, Run}
@@ -33,7 +33,7 @@ RaisedIn v = Raised v.cr v.c.ddr v.inputs
 
 abbrev pub InterruptExact : Type 0
 InterruptExact =
-    (c : Call25) (v : Tpi) → (answer chip c v).refusal ≡ 0 → ((answer chip c v).irq ≡ true) ↔ RaisedIn (next chip c v)
+    (c : Call25) (v : Tpi) → (answer chip c v).refusal ≡ None → ((answer chip c v).irq ≡ true) ↔ RaisedIn (next chip c v)
 
 -- ---- the active interrupt register: the byte that a read gives, and what is left then
 

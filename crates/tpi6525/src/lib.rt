@@ -7,8 +7,8 @@ ghost use Rattle.tpi6525.specs.Record.{well_formed, power_up};
 ghost use Rattle.tpi6525.specs.Access.{register_asks};
 ghost use Rattle.tpi6525.specs.Chip.{chip, accepted as accepted_of, refused as refused_of};
 
-use calls::Call25;
-use clocks::choose8;
+use calls::{Call25, Refusal};
+use clocks::choose;
 use inputs::Inputs;
 use ports::Port;
 
@@ -25,10 +25,10 @@ pub struct Tpi {
     pub inputs: Inputs,
 }
 
-// The answer to a call: its refusal's number or 0, the byte that it read, the lines and the record as it left them.
+// The answer to a call: what it was refused for, the byte that it read, the lines and the record as it left them.
 #[derive(Clone, Copy)]
 pub struct Answer {
-    pub refusal: u8,
+    pub refusal: Option<Refusal>,
     pub data: u8,
     pub irq: bool,
     pub pa: u8,
@@ -37,6 +37,7 @@ pub struct Answer {
     pub tpi: Tpi,
 }
 
+#[tactic(auto, unfolding(chips::specs::Chips::answer, crate::specs::Access::data_of, crate::specs::Access::read_of))]
 impl Tpi {
     // The active interrupt register.
     pub const AIR: u8 = 7;
@@ -61,7 +62,7 @@ impl Tpi {
     {
         let irq = self.irq();
         Answer {
-            refusal: 0,
+            refusal: None,
             data,
             irq,
             pa: self.a.lines(),
@@ -71,11 +72,11 @@ impl Tpi {
         }
     }
 
-    fn refused(self, number: u8) -> Answer
-        ensures { result ≡ refused_of number self }
+    fn refused(self, refusal: Refusal) -> Answer
+        ensures { result ≡ refused_of refusal self }
     {
         Answer {
-            refusal: number,
+            refusal: Some(refusal),
             data: 0,
             irq: false,
             pa: 0,
@@ -85,25 +86,24 @@ impl Tpi {
         }
     }
 
-    // The number of the first refusal that applies, `asked` being that of the operands.
-    fn refusal(self, asked: u8) -> u8
-        ensures { result ≡ (if well_formed self then asked else 1) }
+    // The first refusal that applies, `asked` being that of the operands.
+    fn refusal(self, asked: Option<Refusal>) -> Option<Refusal>
+        ensures { result ≡ (if well_formed self then asked else Some Refusal.IllFormed) }
     {
-        choose8(self.inputs.well(), asked, 1)
+        choose(self.inputs.well(), asked, Some(Refusal::IllFormed))
     }
 
-    fn access_refusal(self, register: u8) -> u8
-        ensures { result ≡ (if well_formed self then register_asks register else 1) }
+    fn access_refusal(self, register: u8) -> Option<Refusal>
+        ensures { result ≡ (if well_formed self then register_asks register else Some Refusal.IllFormed) }
     {
-        self.refusal(choose8(Tpi::LAST_REGISTER < register, 3, 0))
+        self.refusal((Tpi::LAST_REGISTER < register).then_some(Refusal::NoRegister))
     }
 
     pub fn reset(mut self) -> Answer
         ensures { result ≡ answer chip Call25.Reset self }
     {
-        let number = self.refusal(0);
-        if number != 0 {
-            return self.refused(number);
+        if let Some(refusal) = self.refusal(None) {
+            return self.refused(refusal);
         }
         self.a = self.a.silent();
         self.b = self.b.silent();
@@ -116,24 +116,21 @@ impl Tpi {
     pub fn read(mut self, register: u8) -> Answer
         ensures { result ≡ answer chip (Call25.Read register) self }
     {
-        let number = self.access_refusal(register);
-        if number != 0 {
-            return self.refused(number);
+        if let Some(refusal) = self.access_refusal(register) {
+            return self.refused(refusal);
         }
         let data = self.data(register);
-        if register != Tpi::AIR {
-            return self.accepted(data);
+        if register == Tpi::AIR {
+            self.inputs = self.inputs.taken(data);
         }
-        self.inputs = self.inputs.taken(data);
         self.accepted(data)
     }
 
     pub fn write(self, register: u8, value: u8) -> Answer
         ensures { result ≡ answer chip (Call25.Write register value) self }
     {
-        let number = self.access_refusal(register);
-        if number != 0 {
-            return self.refused(number);
+        if let Some(refusal) = self.access_refusal(register) {
+            return self.refused(refusal);
         }
         self.stored(register, value).accepted(0)
     }
@@ -141,9 +138,8 @@ impl Tpi {
     pub fn pins(mut self, pa: u8, pb: u8, pc: u8) -> Answer
         ensures { result ≡ answer chip (Call25.Pins pa pb pc) self }
     {
-        let number = self.refusal(0);
-        if number != 0 {
-            return self.refused(number);
+        if let Some(refusal) = self.refusal(None) {
+            return self.refused(refusal);
         }
         self.inputs = self.inputs.pinned(self.cr, self.c.outside, pc);
         self.a.outside = pa;
@@ -162,9 +158,8 @@ impl Tpi {
     pub fn run(self, n: u32) -> Answer
         ensures { (result ≡ answer chip (Call25.Run n) self) × (result.tpi ≡ self) }
     {
-        let number = self.refusal(0);
-        if number != 0 {
-            return self.refused(number);
+        if let Some(refusal) = self.refusal(None) {
+            return self.refused(refusal);
         }
         self.accepted(0)
     }

@@ -13,6 +13,7 @@ impl Tpi {
     }
 
     // The lines of port C under such an interrupt, which pulls line 5 low in interrupt mode.
+    #[tactic(auto, unfolding(clocks::specs::Bits::with_bit))]
     pub(crate) fn lines_c(self, irq: bool) -> u8
         ensures { result ≡ lines_with irq self }
     {

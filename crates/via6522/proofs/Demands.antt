@@ -1,5 +1,5 @@
 -- The statements of specs/Demands.antt, proved.
-use Rattle.std.specs.Prelude.{if◌then◌else◌}
+use Rattle.std.specs.Prelude.{if◌then◌else◌, Option, None, Some}
 use mathlib.Core.Path.{◌≡◌, refl, ap, ◌∙◌}
 use mathlib.Core.Bool.{Bool, true, false, ◌&&◌}
 use Prim.Native.Nat.{ℕ, ◌<◌}
@@ -7,6 +7,7 @@ use native.Mathlib.Omega.{arith}
 use lib.Dec.{eqb, lit<}
 use Rattle.clocks.specs.Bits.{bit, with_bit, with_clear}
 use Rattle.clocks.proofs.Bits.{bit_with, bit_clear}
+use Rattle.calls.specs.declared.Refusal.{Refusal}
 use Rattle.calls.specs.declared.Call22.TheVariants.{Write, Read, Run}
 use Rattle.chips.specs.Chips.{next}
 use Rattle.chips.proofs.Chips as Chips
@@ -73,8 +74,7 @@ lines_by_bit_b v outside k h l = go (bit 7 v.acr)
 
 -- a bit of the byte that is picked
 bit_picked : (k : ℕ) (b : Bool) (x y : ℕ) → bit k (if b then x else y) ≡ (if b then bit k x else bit k y)
-bit_picked k true x y = refl
-bit_picked k false x y = refl
+bit_picked k b x y = grind arith
 
 pub shown_by_bit_a : Demands.ShownByBitA
 unfolding shown_a
@@ -108,7 +108,11 @@ cleared_by_bit r k v = bit_clear k (next chip (Read r) v).ifr v.ifr
 
 pub refused_clears_none : Demands.RefusedClearsNone
 unfolding reading_of
-refused_clears_none r v z = Chips.refused_clears chip lawful flags (Read r) v z
+refused_clears_none r v z = go (reading_of r v).answer.refusal refl
+  where
+    go : (k : Option Refusal) → (reading_of r v).answer.refusal ≡ k → (reading_of r v).cleared ≡ 0
+    go None e = absurd (z e)
+    go (Some q) e = Chips.refused_clears chip lawful flags (Read r) v q e
 
 -- no mask has more than the record's own flags, and an ill-formed record is refused
 pub mask_seven : Demands.MaskSeven

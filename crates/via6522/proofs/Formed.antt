@@ -2,10 +2,10 @@
 use mathlib.Core.Path.{◌≡◌}
 use mathlib.Core.Bool.{true}
 use Prim.Native.Nat.{◌<◌, ◌≤◌}
-use borrow.Author.Tests.{ltb-true, lt-ltb, leb-true, le-leb}
-use Rattle.clocks.proofs.Tests.{both}
+use native.Mathlib.Omega.{arith}
+use borrow.Author.Tests.{lt-ltb, le-leb}
 use Rattle.flags.specs.Flags.{allowed_pcr}
-use Rattle.timers.proofs.Firsts.{fits_top, top_fits}
+use Rattle.timers.proofs.Firsts.{top_fits}
 use Rattle.via6522.specs.Record.{allowed_acr, well_formed}
 use Rattle.via6522.specs.declared.Via.{Via}
 
@@ -20,20 +20,14 @@ pub record Formed (v : Via) : Type 0 where
 
 pub formed : (v : Via) → well_formed v ≡ true → Formed v
 formed v w =
-    let f = both _ _ w in
-    let e = both _ _ f.0 in
-    let d = both _ _ e.0 in
-    let c = both _ _ d.0 in
-    let b = both _ _ c.0 in
-    let a = both _ _ b.0 in
     record {
-      flags = ltb-true v.ifr 128 a.0;
-      enables = ltb-true v.ier 128 a.1;
-      modes = b.1;
-      codes = c.1;
-      top = fits_top v.t1.mark v.t1.counter d.1;
-      levels = ltb-true v.control 16 e.1;
-      few = leb-true v.sr.left 8 f.1;
+      flags = grind arith;
+      enables = grind arith;
+      modes = grind arith;
+      codes = grind arith;
+      top = λ e. grind arith;
+      levels = grind arith;
+      few = grind arith;
     }
 
 pub well : (v : Via) → Formed v → well_formed v ≡ true

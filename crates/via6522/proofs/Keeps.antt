@@ -1,15 +1,17 @@
 -- What calls keep of a record: that it is well formed, and the ranges that the types of its timers give.
-use Rattle.std.specs.Prelude.{if◌then◌else◌}
+use Rattle.std.specs.Prelude.{if◌then◌else◌, Option, None, Some}
 use mathlib.Core.Path.{◌≡◌, refl}
 use mathlib.Core.Bool.{Bool, true, false, not, ◌&&◌, ◌||◌, false≢true}
-use Prim.Native.Nat.{ℕ, suc, ◌+◌, ◌*◌, ◌/◌, ◌%◌, ◌<◌, ◌≤◌}
+use Prim.Native.Nat.{ℕ, ◌+◌, ◌*◌, ◌/◌, ◌%◌, ◌<◌, ◌≤◌}
 use native.Mathlib.Omega.{arith}
 use lib.Dec.{eqb, ltb, lit<}
-use borrow.Author.Tests.{ltb-false, not-false}
+use borrow.Author.Tests.{ltb-false}
 use Rattle.clocks.proofs.Clocks.{after_keeps}
 use Rattle.clocks.proofs.Bits.{with_lt}
 use Rattle.clocks.proofs.Tests.{neither, picked}
 use Rattle.calls.specs.Calls.{Typed22}
+use Rattle.calls.specs.declared.Refusal.{Refusal}
+use Rattle.calls.specs.declared.Refusal.TheVariants.{NoRegister, LeftOut, NoLevel}
 use Rattle.calls.specs.declared.Call22.{Call22}
 use Rattle.calls.specs.declared.Call22.TheVariants.{Reset, Write, Read, Pins, Run, Forecast}
 use Rattle.flags.specs.Flags.{allowed_pcr, write_clears}
@@ -31,27 +33,22 @@ use Rattle.via6522.proofs.Formed.{Formed}
 -- ---- well formed
 
 -- what is not refused of a write is allowed
-passes : (b : Bool) (n k : ℕ) → (if b then suc k else n) ≡ 0 → (b ≡ false) × (n ≡ 0)
-passes true n k e = absurd (omega arith)
-passes false n k e = (refl, e)
+passes : (b : Bool) (r : Refusal) (k : Option Refusal) → (if b then Some r else k) ≡ None → (b ≡ false) × (k ≡ None)
+passes b r k e = grind arith
 
 allowed_write :
     (r x k : ℕ) (ok : ℕ → Bool) (old : ℕ) → (eqb r k && not (ok x)) ≡ false → ok old ≡ true → ok (if eqb r k then x else old) ≡ true
-allowed_write r x k ok old e h = go (eqb r k) e
-  where
-    go : (b : Bool) → (b && not (ok x)) ≡ false → ok (if b then x else old) ≡ true
-    go true e = not-false (ok x) e
-    go false e = h
+allowed_write r x k ok old e h = grind arith
 
 restarted_few : (v : Via) → v.sr.left ≤ 8 → (restarted v).left ≤ 8
 unfolding restarted shifter_of
 restarted_few v h = accessed_few (shifter_of v) h
 
-write_formed : (r x : ℕ) (v : Via) → write_asks r x ≡ 0 → Formed v → Formed (write_of r x v)
+write_formed : (r x : ℕ) (v : Via) → write_asks r x ≡ None → Formed v → Formed (write_of r x v)
 unfolding write_asks write_of stored
 write_formed r x v e h =
-    let register = passes (ltb 15 r) _ 2 e in
-    let form = neither (eqb r 11 && not (allowed_acr x)) (eqb r 12 && not (allowed_pcr x)) (passes _ 0 3 register.1).0 in
+    let register = passes (ltb 15 r) NoRegister _ e in
+    let form = neither (eqb r 11 && not (allowed_acr x)) (eqb r 12 && not (allowed_pcr x)) (passes _ LeftOut None register.1).0 in
     record {
       flags = cleared_seven _ v.ifr h.flags;
       enables = picked (λ (y : ℕ). y < 128) (eqb r 14) (enabled_seven x v.ier h.enables) h.enables;
@@ -71,10 +68,10 @@ write_formed r x v e h =
         picked (λ (n : ℕ). n ≤ 8) (eqb r 10) (restarted_few (cleared (write_clears r x v.pcr) v) h.few)
         (picked (λ (n : ℕ). n ≤ 8) (eqb r 11) (omega (arith, h.few)) h.few)
 
-pins_formed : (pa pb control : ℕ) (v : Via) → pins_asks control ≡ 0 → Formed v → Formed (pins_of pa pb control v)
+pins_formed : (pa pb control : ℕ) (v : Via) → pins_asks control ≡ None → Formed v → Formed (pins_of pa pb control v)
 unfolding pins_asks pins_of settled with_shifter shift_pulsed shifter_of
 pins_formed pa pb control v e h =
-    let l = ltb-false 15 control (passes (ltb 15 control) 0 4 e).0 in
+    let l = ltb-false 15 control (passes (ltb 15 control) NoLevel None e).0 in
     record {
       flags =
           raised_seven _ _ _ _
@@ -100,7 +97,7 @@ clock_formed v h =
       few = clocked_few (level_cb2 v) (shifter_of v) h.few;
     }
 
-pub leaves_formed : (c : Call22) (v : Via) → asks_of c v ≡ 0 → Formed v → Formed (leaves_of c v)
+pub leaves_formed : (c : Call22) (v : Via) → asks_of c v ≡ None → Formed v → Formed (leaves_of c v)
 unfolding reset_of read_of
 leaves_formed Reset v e h =
     record {

@@ -5,7 +5,7 @@ use lib.Dec.{eqb, ltb, lit≤}
 use Rattle.clocks.proofs.Tests.{picked}
 use Rattle.calls.specs.declared.Call22.{Call22}
 use Rattle.calls.specs.declared.Call22.TheVariants.{Reset, Write, Read, Pins, Run, Forecast}
-use Rattle.chips.proofs.Chips.{Operands, operands_none, Lawful, Ticks}
+use Rattle.chips.proofs.Chips.{Operands, Lawful, Ticks}
 use Rattle.flags.specs.Flags.{allowed_pcr}
 use Rattle.via6522.specs.Record.{allowed_acr}
 use Rattle.via6522.specs.Access.{read_asks, write_asks}
@@ -18,22 +18,22 @@ use Rattle.via6522.proofs.Keeps.{clock_formed, leaves_formed}
 
 operands : (c : Call22) (v : Via) → Operands (asks_of c v)
 unfolding read_asks write_asks pins_asks
-operands Reset v = operands_none
+operands Reset v = tt
 operands (Write r x) v =
-    picked Operands (ltb 15 r) (λ z. lit≤ tt)
-    (picked Operands (eqb r 11 && not (allowed_acr x) || eqb r 12 && not (allowed_pcr x)) (λ z. lit≤ tt) operands_none)
-operands (Read r) v = picked Operands (ltb 15 r) (λ z. lit≤ tt) operands_none
-operands (Pins pa pb control) v = picked Operands (ltb 15 control) (λ z. lit≤ tt) operands_none
-operands (Run n) v = operands_none
-operands Forecast v = operands_none
+    picked Operands (ltb 15 r) (lit≤ tt)
+    (picked Operands (eqb r 11 && not (allowed_acr x) || eqb r 12 && not (allowed_pcr x)) (lit≤ tt) tt)
+operands (Read r) v = picked Operands (ltb 15 r) (lit≤ tt) tt
+operands (Pins pa pb control) v = picked Operands (ltb 15 control) (lit≤ tt) tt
+operands (Run n) v = tt
+operands Forecast v = tt
 
 pub lawful : Lawful chip
 lawful =
     record {
-      number_accepted = λ d v. refl;
-      number_refused = λ n v. refl;
+      refusal_accepted = λ d v. refl;
+      refusal_refused = λ r v. refl;
       left_accepted = λ d v. refl;
-      left_refused = λ n v. refl;
+      left_refused = λ r v. refl;
       other = operands;
       starts = refl;
       keeps = λ c v t e w. well (leaves_of c v) (leaves_formed c v e (formed v w));

@@ -1,16 +1,18 @@
 -- The timer pair is a part of the record, and the shift register is another: what is put back is what is taken out. So running the two,
 -- side by side, runs the chip.
 use mathlib.Core.Path.{◌≡◌, refl, sym, ap, ◌∙◌}
-use mathlib.Core.Bool.{Bool}
+use mathlib.Core.Bool.{Bool, ◌&&◌}
 use Prim.Native.Nat.{ℕ}
 use native.Mathlib.Omega.{arith}
 use Rattle.clocks.specs.Clocks.{after}
 use Rattle.clocks.specs.Bits.{bit, with_bit}
 use Rattle.clocks.proofs.Clocks.{after_agree, after_keeps, Part, Apart, moving_both, both_after}
 use Rattle.clocks.proofs.Bits.{bit_here, bit_other, with_same, with_over, with_swap}
+use Rattle.clocks.proofs.Tests.{picked}
 use Rattle.timers.specs.First as First
 use Rattle.timers.specs.Second as Second
 use Rattle.timers.specs.Pair as Pair
+use Rattle.timers.specs.declared.T2.{T2}
 use Rattle.timers.specs.declared.Timers.{Timers}
 use Rattle.timers.proofs.Firsts.{keeps_free}
 use Rattle.timers.proofs.Seconds.{keeps_mode}
@@ -80,6 +82,11 @@ timers_part =
           ap (λ (x : ℕ). with_ifr x (with_timers q v)) (flags_over q.t1.flag q.t2.flag p.t1.flag p.t2.flag v.ifr);
       get_put = λ v. timers_put (Pair.clocked (timers_of v)) v (keeps_free (timers_of v).t1) (keeps_mode (timers_of v).t2);
     }
+
+-- a pulse leaves T2's low latch
+pub pulsed_low : (fall : Bool) (t : T2) → (Second.pulsed fall t).low ≡ t.low
+unfolding Second.pulsed Second.counted
+pulsed_low fall t = picked (λ (u : T2). u.low ≡ t.low) (t.pulse && fall) refl refl
 
 -- ---- the shift register
 

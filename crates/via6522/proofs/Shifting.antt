@@ -1,4 +1,5 @@
 -- The shift register under the calls that move it: accesses, pulses on CB1, runs. Eight turns that shift are eight shifts.
+use Rattle.std.specs.Prelude.{None}
 use mathlib.Core.Path.{◌≡◌, refl, sym, ap, ◌∙◌}
 use mathlib.Core.Bool.{Bool, true, false, not, ◌&&◌, ◌||◌, and-false, or-false}
 use Prim.Native.Nat.{ℕ, zero, suc, ◌-◌, ◌<◌, ◌≤◌}
@@ -36,7 +37,7 @@ use Rattle.via6522.proofs.Lens.{shifter_after}
 use Rattle.via6522.proofs.Lawful.{lawful, ticks}
 
 -- what an accepted call leaves
-module _ (c : Call22) (v : Via) (e : asks_of c v ≡ 0) (w : well_formed v ≡ true) where
+module _ (c : Call22) (v : Via) (e : asks_of c v ≡ None) (w : well_formed v ≡ true) where
   leaves : next chip c v ≡ leaves_of c v
   leaves = ap (λ r. r.via) (Chips.accepts_well chip lawful c v w e)
 
@@ -83,7 +84,7 @@ write_access x v w =
 
 -- a pins call with levels of four lines is accepted
 module _ (pa pb control : ℕ) (v : Via) (w : well_formed v ≡ true) (h : control < 16) where
-  pins_asks_lem : asks_of (Pins pa pb control) v ≡ 0
+  pins_asks_lem : asks_of (Pins pa pb control) v ≡ None
   unfolding pins_asks
   pins_asks_lem = rw (le-ltb 15 control (omega arith))
 

@@ -1,6 +1,8 @@
 -- The sixteen registers: what is refused, what a read gives and leaves, and what a write stores. Flags are cleared by the rules of `flags`.
-use Rattle.std.specs.Prelude.{true, false, not, ◌&&◌, ◌||◌, ℕ, ◌+◌, ◌*◌, ◌/◌, ◌%◌, eqb, ltb, if◌then◌else◌}
+use Rattle.std.specs.Prelude.{true, false, not, ◌&&◌, ◌||◌, ℕ, ◌+◌, ◌*◌, ◌/◌, ◌%◌, eqb, ltb, if◌then◌else◌, Option, None, Some}
 use Rattle.clocks.specs.Bits.{with_bit}
+use Rattle.calls.specs.declared.Refusal.{Refusal}
+use Rattle.calls.specs.declared.Refusal.TheVariants.{NoRegister, LeftOut}
 use Rattle.flags.specs.Flags.{allowed_pcr, read_clears, write_clears, shown, enabled}
 use Rattle.shifter.specs.Shifter.{accessed}
 use Rattle.via6522.specs.Record.{allowed_acr}
@@ -14,15 +16,11 @@ use Rattle.via6522.specs.declared.Via.{Via}
 unfoldable pub restarted : Via → Serial
 restarted v = serial_of (accessed (shifter_of v))
 
--- with the byte of a write
-abbrev pub written : ℕ → Serial → Serial
-written x s = record { byte = x; left = s.left; half = s.half; output = s.output }
-
 -- ---- reads
 
 -- a register above 15 is refused
-unfoldable pub read_asks : ℕ → ℕ
-read_asks r = if ltb 15 r then 3 else 0
+unfoldable pub read_asks : ℕ → Option Refusal
+read_asks r = if ltb 15 r then Some NoRegister else None
 
 -- the byte that a read gives; IFR shows the interrupt line in bit 7, IER a one
 unfoldable pub data_of : ℕ → Via → ℕ
@@ -51,11 +49,11 @@ read_of r v = with_sr (if eqb r 10 then restarted v else v.sr) (cleared (read_cl
 -- ---- writes
 
 -- a register above 15 is refused, and a mode that is left out
-unfoldable pub write_asks : ℕ → ℕ → ℕ
+unfoldable pub write_asks : ℕ → ℕ → Option Refusal
 write_asks r x =
-    if ltb 15 r then 3 else
-    (if eqb r 11 && not (allowed_acr x) || eqb r 12 && not (allowed_pcr x) then 4 else
-    0)
+    if ltb 15 r then Some NoRegister else
+    (if eqb r 11 && not (allowed_acr x) || eqb r 12 && not (allowed_pcr x) then Some LeftOut else
+    None)
 
 -- T1's latch with another low or high half
 abbrev pub low_half : ℕ → ℕ → ℕ

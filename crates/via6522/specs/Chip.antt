@@ -1,9 +1,10 @@
 -- The 6522 as a chip: what each call asks, gives and leaves, and what an answer shows.
-use Rattle.std.specs.Prelude.{◌≡◌, true, false, ℕ}
+use Rattle.std.specs.Prelude.{◌≡◌, true, false, ℕ, Option, None, Some}
 use Rattle.clocks.specs.Clocks.{after}
 use Rattle.clocks.specs.Bits.{bit}
 use Rattle.ports.specs.Ports.{lines_of}
 use Rattle.calls.specs.Calls.{Typed22}
+use Rattle.calls.specs.declared.Refusal.{Refusal}
 use Rattle.calls.specs.declared.Call22.{Call22}
 use Rattle.calls.specs.declared.Call22.TheVariants.{Reset, Write, Read, Pins, Run, Forecast}
 use Rattle.chips.specs.Chips.{Chip, Clocked, Lined, answer, cleared_by}
@@ -15,16 +16,16 @@ use Rattle.via6522.specs.Pins.{pins_asks, pins_of}
 use Rattle.via6522.specs.Clock.{clock_of}
 use Rattle.via6522.specs.declared.Via.{Via}
 use Rattle.via6522.specs.declared.Answer.{Answer}
-use Rattle.via6522.specs.declared.Reading.{Reading}
+use Rattle.chips.specs.declared.Reading.{Reading}
 
--- the number that a call's operands are refused with, 0 for none
-abbrev pub asks_of : Call22 → Via → ℕ
-asks_of Reset v = 0
+-- what a call's operands are refused for
+abbrev pub asks_of : Call22 → Via → Option Refusal
+asks_of Reset v = None
 asks_of (Write r x) v = write_asks r x
 asks_of (Read r) v = read_asks r
 asks_of (Pins pa pb control) v = pins_asks control
-asks_of (Run n) v = 0
-asks_of Forecast v = 0
+asks_of (Run n) v = None
+asks_of Forecast v = None
 
 -- the byte that a call reads
 abbrev pub gives_of : Call22 → Via → ℕ
@@ -48,7 +49,7 @@ leaves_of Forecast v = v
 abbrev pub accepted : ℕ → Via → Answer
 accepted d v =
     record {
-      refusal = 0;
+      refusal = None;
       «data» = d;
       irq = irq_of v;
       pa = lines_of v.a;
@@ -56,9 +57,9 @@ accepted d v =
       via = v;
     }
 
--- a refused call shows its number and nothing else, and hands the record back
-abbrev pub refused : ℕ → Via → Answer
-refused n v = record { refusal = n; «data» = 0; irq = false; pa = 0; pb = 0; via = v }
+-- a refused call shows its refusal and nothing else, and hands the record back
+abbrev pub refused : Refusal → Via → Answer
+refused r v = record { refusal = Some r; «data» = 0; irq = false; pa = 0; pb = 0; via = v }
 
 abbrev pub chip : Chip
 chip =
@@ -74,7 +75,7 @@ chip =
       leaves = leaves_of;
       accepted = accepted;
       refused = refused;
-      number = λ r. r.refusal;
+      refusal = λ r. r.refusal;
       left = λ r. r.via;
     }
 
@@ -98,5 +99,5 @@ abbrev pub flags : Via → ℕ
 flags v = v.ifr
 
 -- a read: the mask of the flags that it cleared, and the answer to the call
-unfoldable pub reading_of : ℕ → Via → Reading
+unfoldable pub reading_of : ℕ → Via → Reading Answer
 reading_of r v = record { cleared = cleared_by chip flags (Read r) v; answer = answer chip (Read r) v }

@@ -2,11 +2,15 @@
 use Rattle.std.specs.Prelude.{Bool}
 use Rattle.clocks.specs.Bits.{bit, with_bit}
 use Rattle.timers.specs.Pair as Pair
+use Rattle.timers.specs.declared.T1.{T1}
+use Rattle.timers.specs.declared.T2.{T2}
 use Rattle.timers.specs.declared.Timers.{Timers}
 use Rattle.shifter.specs.Shifter as Shift
 use Rattle.shifter.specs.declared.Shifter.{Shifter}
 use Rattle.via6522.specs.Record.{mode_of}
 use Rattle.via6522.specs.Flags.{with_ifr, with_sr}
+use Rattle.via6522.specs.declared.Count1.{Count1}
+use Rattle.via6522.specs.declared.Count2.{Count2}
 use Rattle.via6522.specs.declared.Serial.{Serial}
 use Rattle.via6522.specs.declared.Via.{Via}
 
@@ -34,6 +38,13 @@ timers_of v =
           };
     }
 
+-- what the record has of each timer; flag and mode are in IFR and ACR
+abbrev pub count1_of : T1 → Count1
+count1_of t = record { counter = t.counter; latch = t.latch; armed = t.armed; mark = t.mark; level = t.level }
+
+abbrev pub count2_of : T2 → Count2
+count2_of t = record { counter = t.counter; low = t.low; armed = t.armed }
+
 -- the chip with another pair; the modes are ACR's and stay
 unfoldable pub with_timers : Timers → Via → Via
 with_timers p v =
@@ -42,15 +53,8 @@ with_timers p v =
       kept_a = v.kept_a;
       b = v.b;
       kept_b = v.kept_b;
-      t1 =
-          record {
-            counter = p.t1.counter;
-            latch = p.t1.latch;
-            armed = p.t1.armed;
-            mark = p.t1.mark;
-            level = p.t1.level;
-          };
-      t2 = record { counter = p.t2.counter; low = p.t2.low; armed = p.t2.armed };
+      t1 = count1_of p.t1;
+      t2 = count2_of p.t2;
       sr = v.sr;
       acr = v.acr;
       pcr = v.pcr;

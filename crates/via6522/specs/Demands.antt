@@ -1,5 +1,5 @@
 -- What the three demands and the requests ask of the 6522 beyond the promise of each entry. proofs/Demands.antt has a proof of each statement, under its name in small letters.
-use Rattle.std.specs.Prelude.{◌≡◌, Bool, true, false, not, ◌&&◌, ◌||◌, ℕ, suc, ◌+◌, ◌-◌, ◌%◌, ◌<◌, ◌≤◌, eqb, leb, if◌then◌else◌}
+use Rattle.std.specs.Prelude.{◌≡◌, Bool, true, false, not, ◌&&◌, ◌||◌, ℕ, suc, ◌+◌, ◌-◌, ◌%◌, ◌<◌, ◌≤◌, eqb, leb, if◌then◌else◌, None}
 use Rattle.clocks.specs.Clocks.{after, in_turn}
 use Rattle.clocks.specs.Bits.{bit, with_bit}
 use Rattle.calls.specs.declared.Call22.{Call22}
@@ -92,7 +92,7 @@ ClearedByBit =
 
 -- the mask of a refused read is 0
 abbrev pub RefusedClearsNone : Type 0
-RefusedClearsNone = (r : ℕ) (v : Via) → ((reading_of r v).answer.refusal ≡ 0 → ⊥) → (reading_of r v).cleared ≡ 0
+RefusedClearsNone = (r : ℕ) (v : Via) → ((reading_of r v).answer.refusal ≡ None → ⊥) → (reading_of r v).cleared ≡ 0
 
 -- bit 7 is in no mask, whatever record is handed in
 abbrev pub MaskSeven : Type 0

@@ -1,8 +1,11 @@
 -- New levels outside: pulses on PB6 and on CB1, edges on the control lines, and kept port lines. Every edge is from the levels before the call.
-use Rattle.std.specs.Prelude.{true, false, ℕ, ltb, if◌then◌else◌}
+use Rattle.std.specs.Prelude.{true, false, ℕ, ltb, if◌then◌else◌, Option, None, Some}
 use Rattle.clocks.specs.Bits.{bit, with_bit}
 use Rattle.ports.specs.Ports.{edge, lines_for, under}
-use Rattle.flags.specs.Flags.{raised, keeps_a, keeps_b}
+use Rattle.calls.specs.declared.Refusal.{Refusal}
+use Rattle.calls.specs.declared.Refusal.TheVariants.{NoLevel}
+use Rattle.flags.specs.Flags.{raised, keeps}
+use Rattle.flags.specs.declared.Side.TheVariants.{A, B}
 use Rattle.timers.specs.Second as Second
 use Rattle.timers.specs.declared.T2.{T2}
 use Rattle.shifter.specs.Shifter as Shift
@@ -12,8 +15,8 @@ use Rattle.via6522.specs.Clock.{timers_of, shifter_of, with_shifter}
 use Rattle.via6522.specs.declared.Via.{Via}
 
 -- more control levels than there are lines are refused
-unfoldable pub pins_asks : ℕ → ℕ
-pins_asks control = if ltb 15 control then 5 else 0
+unfoldable pub pins_asks : ℕ → Option Refusal
+pins_asks control = if ltb 15 control then Some NoLevel else None
 
 -- T2 after a fall of PB6 outside, whatever the port does with that line
 unfoldable pub pulsed : ℕ → Via → T2
@@ -46,9 +49,9 @@ unfoldable pub settled : ℕ → ℕ → ℕ → Via → Via
 settled pa pb control v =
     record {
       a = under pa v.a;
-      kept_a = if keeps_a v.pcr v.control control v.ifr then lines_for pa v.a else v.kept_a;
+      kept_a = if keeps A v.pcr v.control control v.ifr then lines_for pa v.a else v.kept_a;
       b = under pb v.b;
-      kept_b = if keeps_b v.pcr v.control control v.ifr then lines_b pb v else v.kept_b;
+      kept_b = if keeps B v.pcr v.control control v.ifr then lines_b pb v else v.kept_b;
       t1 = v.t1;
       t2 = v.t2;
       sr = v.sr;

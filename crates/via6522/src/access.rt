@@ -1,10 +1,13 @@
 // The sixteen registers: which accesses are refused, the byte of each, and what a read and a write leave.
+#![tactic(auto, unfolding(crate::specs::Access::restarted, crate::specs::Access::read_asks, crate::specs::Access::data_of, crate::specs::Access::write_asks, crate::specs::Access::stored, crate::specs::Clock::shifter_of, shifter::specs::Shifter::accessed, clocks::specs::Bits::with_bit))]
+
 ghost use Rattle.std.specs.Prelude.{◌≡◌, eqb, if◌then◌else◌};
 ghost use Rattle.via6522.specs.Record.{allowed_acr};
-ghost use Rattle.via6522.specs.Access.{restarted as restarted_of, written, data_of, stored as stored_of, read_asks, write_asks};
+ghost use Rattle.via6522.specs.Access.{restarted as restarted_of, data_of, stored as stored_of, read_asks, write_asks};
 
 use crate::{Serial, Via};
-use clocks::choose8;
+use calls::Refusal;
+use shifter::Shifter;
 
 pub(crate) fn allowed_acr(acr: u8) -> bool
     ensures { result ≡ allowed_acr acr }
@@ -12,18 +15,21 @@ pub(crate) fn allowed_acr(acr: u8) -> bool
     shifter::allowed(acr / 4 % 8)
 }
 
-pub(crate) fn read_asks(register: u8) -> u8
+pub(crate) fn read_asks(register: u8) -> Option<Refusal>
     ensures { result ≡ read_asks register }
 {
-    choose8(15 < register, 3, 0)
+    (15 < register).then_some(Refusal::NoRegister)
 }
 
-pub(crate) fn write_asks(register: u8, value: u8) -> u8
+pub(crate) fn write_asks(register: u8, value: u8) -> Option<Refusal>
     ensures { result ≡ write_asks register value }
 {
-    let form = (register == 11) & !allowed_acr(value)
+    if 15 < register {
+        return Some(Refusal::NoRegister);
+    }
+    let left_out = (register == 11) & !allowed_acr(value)
         | (register == 12) & !flags::allowed_pcr(value);
-    choose8(15 < register, 3, choose8(form, 4, 0))
+    left_out.then_some(Refusal::LeftOut)
 }
 
 impl Via {
@@ -31,15 +37,7 @@ impl Via {
     fn restarted(self) -> Serial
         ensures { result ≡ restarted_of self }
     {
-        crate::clock::serial(self.shifter().accessed())
-    }
-
-    fn sr_written(self, value: u8) -> Serial
-        ensures { result ≡ written value (restarted_of self) }
-    {
-        let mut sr = self.restarted();
-        sr.byte = value;
-        sr
+        Shifter::from(self).accessed().into()
     }
 
     // What a read leaves of the shift register.
@@ -56,17 +54,20 @@ impl Via {
     pub(crate) fn data(self, register: u8) -> u8
         ensures { result ≡ data_of register self }
     {
+        let [high1, low1] = self.t1.counter.to_be_bytes();
+        let [latch_high, latch_low] = self.t1.latch.to_be_bytes();
+        let [high2, low2] = self.t2.counter.to_be_bytes();
         match register {
             0 => self.shown_b(),
             1 => self.shown_a(),
             2 => self.b.ddr,
             3 => self.a.ddr,
-            4 => (self.t1.counter % 256) as u8,
-            5 => (self.t1.counter / 256) as u8,
-            6 => (self.t1.latch % 256) as u8,
-            7 => (self.t1.latch / 256) as u8,
-            8 => (self.t2.counter % 256) as u8,
-            9 => (self.t2.counter / 256) as u8,
+            4 => low1,
+            5 => high1,
+            6 => latch_low,
+            7 => latch_high,
+            8 => low2,
+            9 => high2,
             10 => self.sr.byte,
             11 => self.acr,
             12 => self.pcr,
@@ -79,32 +80,29 @@ impl Via {
     pub(crate) fn stored(mut self, register: u8, value: u8) -> Via
         ensures { result ≡ stored_of register value self }
     {
-        let low = self.t1.latch / 256 * 256 + value as u16;
-        let high = value as u16 * 256 + self.t1.latch % 256;
+        let [high, low] = self.t1.latch.to_be_bytes();
         match register {
             0 => self.b.output = value,
-            1 => self.a.output = value,
+            1 | 15 => self.a.output = value,
             2 => self.b.ddr = value,
             3 => self.a.ddr = value,
-            4 => self.t1.latch = low,
+            4 | 6 => self.t1.latch = u16::from_be_bytes([high, value]),
             5 => {
-                self.t1.latch = high;
-                self.t1.counter = high;
+                self.t1.latch = u16::from_be_bytes([value, low]);
+                self.t1.counter = self.t1.latch;
                 self.t1.mark = false;
                 self.t1.armed = true;
                 self.t1.level = false;
             }
-            6 => self.t1.latch = low,
-            7 => self.t1.latch = high,
+            7 => self.t1.latch = u16::from_be_bytes([value, low]),
             8 => self.t2.low = value,
             9 => {
-                let counter = value as u16 * 256 + self.t2.low as u16;
-                self.t2.counter = counter;
+                self.t2.counter = u16::from_be_bytes([value, self.t2.low]);
                 self.t2.armed = true;
             }
             10 => {
-                let sr = self.sr_written(value);
-                self.sr = sr;
+                self.sr = self.restarted();
+                self.sr.byte = value;
             }
             11 => {
                 self.acr = value;
@@ -113,7 +111,6 @@ impl Via {
             }
             12 => self.pcr = value,
             14 => self.ier = flags::enabled(value, self.ier),
-            15 => self.a.output = value,
             _ => (),
         }
         self

@@ -1,15 +1,19 @@
 // The 6522: two ports with control lines, two timers, a shift register, and the flags of them all.
 // A call takes the record and hands it back inside its answer.
-#![tactic(auto)]
+#![tactic(auto, unfolding(chips::specs::Chips::answer, crate::specs::Record::reset_of, crate::specs::Access::read_of, crate::specs::Access::write_of, crate::specs::Pins::pins_of, crate::specs::Chip::reading_of, clocks::specs::Bits::with_bit))]
 
-ghost use Rattle.std.specs.Prelude.{◌≡◌, if◌then◌else◌};
+ghost use Rattle.std.specs.Prelude.{◌≡◌, if◌then◌else◌, Some};
+ghost use Rattle.calls.specs.declared.Refusal.TheVariants.{IllFormed};
 ghost use Rattle.calls.specs.declared.Call22.{Call22};
 ghost use Rattle.chips.specs.Chips.{answer, Foretold};
 ghost use Rattle.via6522.specs.Record.{power_up, well_formed};
 ghost use Rattle.via6522.specs.Chip.{accepted as accepted_of, refused as refused_of, chip, clocked, lined, largest_forecast, reading_of};
 
-use clocks::{Forecast, choose8};
+use calls::Refusal;
+use clocks::{Forecast, choose};
 use ports::Port;
+use shifter::Shifter;
+use timers::Timers;
 
 mod access;
 mod clock;
@@ -35,7 +39,7 @@ pub struct Count2 {
 }
 
 // The shift register likewise. `left`: shifts to come. `half`: the half-clock mark. `output`: what it puts on CB2.
-#[derive(Clone, Copy)]
+#[derive(Clone, Copy, Default)]
 pub struct Serial {
     pub half: bool,
     pub left: u8,
@@ -60,10 +64,10 @@ pub struct Via {
     pub control: u8,
 }
 
-// The answer to a call: its refusal's number or 0, the byte that it read, the lines and the record as it left them.
+// The answer to a call: why it was refused, the byte that it read, the lines and the record as it left them.
 #[derive(Clone, Copy)]
 pub struct Answer {
-    pub refusal: u8,
+    pub refusal: Option<Refusal>,
     pub data: u8,
     pub irq: bool,
     pub pa: u8,
@@ -71,19 +75,9 @@ pub struct Answer {
     pub via: Via,
 }
 
-// What a read gives back: `cleared` has the flags that it found set and left clear, in the bits of IFR.
-#[derive(Clone, Copy)]
-pub struct Reading {
-    pub cleared: u8,
-    pub answer: Answer,
-}
+pub type Reading = chips::Reading<Answer>;
 
-// What a forecast gives back.
-#[derive(Clone, Copy)]
-pub struct Outlook {
-    pub forecast: Forecast,
-    pub answer: Answer,
-}
+pub type Outlook = chips::Outlook<Answer>;
 
 impl Via {
     // The largest forecast: a reload to come, from a full latch.
@@ -116,12 +110,7 @@ impl Via {
                 low: 255,
                 armed: false,
             },
-            sr: Serial {
-                byte: 0,
-                left: 0,
-                half: false,
-                output: false,
-            },
+            sr: Serial::default(),
             acr: 0,
             pcr: 0,
             ifr: 0,
@@ -133,22 +122,21 @@ impl Via {
     fn accepted(self, data: u8) -> Answer
         ensures { result ≡ accepted_of «data» self }
     {
-        let a = self.a;
         Answer {
-            refusal: 0,
+            refusal: None,
             data,
             irq: clocks::shares(self.ifr, self.ier),
-            pa: a.lines(),
+            pa: self.a.lines(),
             pb: self.lines_b(self.b.outside),
             via: self,
         }
     }
 
-    fn refused(self, number: u8) -> Answer
-        ensures { result ≡ refused_of number self }
+    fn refused(self, refusal: Refusal) -> Answer
+        ensures { result ≡ refused_of refusal self }
     {
         Answer {
-            refusal: number,
+            refusal: Some(refusal),
             data: 0,
             irq: false,
             pa: 0,
@@ -170,86 +158,89 @@ impl Via {
     }
 
     // The refusal that applies first, where the operands ask for `asked`.
-    fn refusal(self, asked: u8) -> u8
-        ensures { result ≡ (if well_formed self then asked else 1) }
+    fn refusal(self, asked: Option<Refusal>) -> Option<Refusal>
+        ensures { result ≡ (if well_formed self then asked else Some IllFormed) }
     {
-        choose8(self.well_formed(), asked, 1)
+        choose(self.well_formed(), asked, Some(Refusal::IllFormed))
     }
 
-    pub fn reset(mut self) -> Answer
+    pub fn reset(self) -> Answer
         ensures { result ≡ answer chip Call22.Reset self }
     {
-        let number = self.refusal(0);
-        if number != 0 {
-            return self.refused(number);
+        if let Some(refusal) = self.refusal(None) {
+            return self.refused(refusal);
         }
-        self.a.output = 0;
-        self.a.ddr = 0;
-        self.b.output = 0;
-        self.b.ddr = 0;
-        self.t1.armed = false;
-        self.t1.mark = false;
-        self.t1.level = true;
-        self.t2.armed = false;
-        self.sr.left = 0;
-        self.sr.half = false;
-        self.sr.output = false;
-        self.acr = 0;
-        self.pcr = 0;
-        self.ifr = 0;
-        self.ier = 0;
-        self.accepted(0)
+        let cleared = Via {
+            a: self.a.silent(),
+            b: self.b.silent(),
+            t1: Count1 {
+                armed: false,
+                mark: false,
+                level: true,
+                ..self.t1
+            },
+            t2: Count2 {
+                armed: false,
+                ..self.t2
+            },
+            sr: Serial {
+                byte: self.sr.byte,
+                ..Serial::default()
+            },
+            acr: 0,
+            pcr: 0,
+            ifr: 0,
+            ier: 0,
+            ..self
+        };
+        cleared.accepted(0)
     }
 
-    pub fn read(mut self, register: u8) -> Reading
+    // What it cleared is in the bits of IFR.
+    #[tactic(auto, using(clocks::proofs::Bits::gone_none), unfolding(chips::specs::Chips::answer, crate::specs::Access::read_of, crate::specs::Chip::reading_of))]
+    pub fn read(self, register: u8) -> Reading
         ensures { result ≡ reading_of register self }
     {
-        let number = self.refusal(access::read_asks(register));
-        if number != 0 {
+        if let Some(refusal) = self.refusal(access::read_asks(register)) {
             return Reading {
                 cleared: 0,
-                answer: self.refused(number),
+                answer: self.refused(refusal),
             };
         }
-        let data = self.data(register);
-        let before = self.ifr;
         let clears = flags::read_clears(register, self.pcr);
-        let sr = self.sr_after(register);
-        self.ifr = clocks::with_mask(clears, false, before);
-        self.sr = sr;
+        let after = Via {
+            sr: self.sr_after(register),
+            ifr: clocks::with_mask(clears, false, self.ifr),
+            ..self
+        };
         Reading {
-            cleared: clocks::gone(before, self.ifr),
-            answer: self.accepted(data),
+            cleared: clocks::gone(self.ifr, after.ifr),
+            answer: after.accepted(self.data(register)),
         }
     }
 
     pub fn write(mut self, register: u8, value: u8) -> Answer
         ensures { result ≡ answer chip (Call22.Write register value) self }
     {
-        let number = self.refusal(access::write_asks(register, value));
-        if number != 0 {
-            return self.refused(number);
+        if let Some(refusal) = self.refusal(access::write_asks(register, value)) {
+            return self.refused(refusal);
         }
         let clears = flags::write_clears(register, value, self.pcr);
         self.ifr = clocks::with_mask(clears, false, self.ifr);
         self.stored(register, value).accepted(0)
     }
 
-    pub fn pins(mut self, pa: u8, pb: u8, control: u8) -> Answer
+    pub fn pins(self, pa: u8, pb: u8, control: u8) -> Answer
         ensures { result ≡ answer chip (Call22.Pins pa pb control) self }
     {
-        let number = self.refusal(pins::pins_asks(control));
-        if number != 0 {
-            return self.refused(number);
+        if let Some(refusal) = self.refusal(pins::pins_asks(control)) {
+            return self.refused(refusal);
         }
-        let t2 = self.pulsed(pb);
-        let s = self.shift_pulsed(control);
-        let sr = clock::serial(s);
-        self.t2.counter = t2.counter;
-        self.t2.armed = t2.armed;
-        self.sr = sr;
-        self.ifr = clocks::with_mask(4, s.flag, clocks::with_mask(32, t2.flag, self.ifr));
-        self.settled(pa, pb, control).accepted(0)
+        let sr = self.shift_pulsed(control);
+        self.pulsed(pb)
+            .with_shifter(sr)
+            .settled(pa, pb, control)
+            .accepted(0)
     }
 
     pub fn clock(self) -> Answer
@@ -259,43 +250,30 @@ impl Via {
     }
 
     // n clocks, in a number of steps that does not grow with n.
-    pub fn run(mut self, n: u32) -> Answer
+    #[tactic(auto, using(crate::proofs::Lens::parts_after), unfolding(chips::specs::Chips::answer))]
+    pub fn run(self, n: u32) -> Answer
         ensures { result ≡ answer chip (Call22.Run n) self }
     {
-        let number = self.refusal(0);
-        if number != 0 {
-            return self.refused(number);
+        if let Some(refusal) = self.refusal(None) {
+            return self.refused(refusal);
         }
-        let p = self.timers().run(n);
-        let s = self.shifter().run(n, clocks::bit(3, self.control));
-        let sr = clock::serial(s);
-        self.t1.counter = p.t1.counter;
-        self.t1.latch = p.t1.latch;
-        self.t1.armed = p.t1.armed;
-        self.t1.mark = p.t1.mark;
-        self.t1.level = p.t1.level;
-        self.t2.counter = p.t2.counter;
-        self.t2.low = p.t2.low;
-        self.t2.armed = p.t2.armed;
-        self.sr = sr;
-        let shifted = clocks::with_mask(4, s.flag, self.ifr);
-        self.ifr = clocks::with_mask(64, p.t1.flag, clocks::with_mask(32, p.t2.flag, shifted));
-        self.accepted(0)
+        let pair = Timers::from(self).run(n);
+        let sr = Shifter::from(self).run(n, clocks::bit(3, self.control));
+        self.with_shifter(sr).with_timers(pair).accepted(0)
     }
 
     pub fn forecast(self) -> Outlook
         ensures { Foretold chip clocked lined self result.forecast result.answer }
     {
-        if self.well_formed() {
-            Outlook {
-                forecast: self.foreseen(),
-                answer: self.accepted(0),
-            }
-        } else {
-            Outlook {
+        if let Some(refusal) = self.refusal(None) {
+            return Outlook {
                 forecast: Forecast::In(0),
-                answer: self.refused(1),
-            }
+                answer: self.refused(refusal),
+            };
+        }
+        Outlook {
+            forecast: self.foreseen(),
+            answer: self.accepted(0),
         }
     }
 }

@@ -1,26 +1,36 @@
 // New levels outside.
+#![tactic(auto, unfolding(crate::specs::Pins::pins_asks, crate::specs::Pins::pulsed, crate::specs::Pins::shift_pulsed, crate::specs::Pins::settled, clocks::specs::Bits::with_bit))]
+
 ghost use Rattle.std.specs.Prelude.{◌≡◌};
-ghost use Rattle.via6522.specs.Pins.{pins_asks, pulsed as pulsed_of, shift_pulsed, settled as settled_of};
+ghost use Rattle.via6522.specs.Pins.{pins_asks, pulsed as pulsed_of, with_pulse, shift_pulsed, settled as settled_of};
 
 use crate::Via;
-use clocks::{bit, choose8};
-use ports::edge;
+use calls::Refusal;
+use clocks::{bit, choose, with_mask};
+use flags::{Edges, Side};
+use ports::{Port, edge};
 use shifter::Shifter;
 use timers::T2;
 
-pub(crate) fn pins_asks(control: u8) -> u8
+pub(crate) fn pins_asks(control: u8) -> Option<Refusal>
     ensures { result ≡ pins_asks control }
 {
-    choose8(15 < control, 5, 0)
+    (15 < control).then_some(Refusal::NoLevel)
 }
 
 impl Via {
-    // T2 after a fall of PB6 outside.
-    pub(crate) fn pulsed(self, pb: u8) -> T2
-        ensures { result ≡ pulsed_of pb self }
+    // With T2 after a fall of PB6 outside.
+    #[tactic(auto, using(crate::proofs::Lens::pulsed_low), unfolding(crate::specs::Pins::pulsed, crate::specs::Clock::timers_of, clocks::specs::Bits::with_bit))]
+    pub(crate) fn pulsed(self, pb: u8) -> Via
+        ensures { result ≡ with_pulse (pulsed_of pb self) self }
     {
         let fall = edge(false, bit(6, self.b.outside), bit(6, pb));
-        self.second().pulsed(fall)
+        let t2 = T2::from(self).pulsed(fall);
+        Via {
+            t2: t2.into(),
+            ifr: with_mask(32, t2.flag, self.ifr),
+            ..self
+        }
     }
 
     // The shift register after a rise of CB1 outside, with CB2 as the call leaves it.
@@ -28,22 +38,34 @@ impl Via {
         ensures { result ≡ shift_pulsed control self }
     {
         let rise = edge(true, bit(2, self.control), bit(2, control));
-        self.shifter().pulsed(rise, bit(3, control))
+        Shifter::from(self).pulsed(rise, bit(3, control))
     }
 
     // The edges of the control lines, and the lines that their flags keep.
-    pub(crate) fn settled(mut self, pa: u8, pb: u8, control: u8) -> Via
+    pub(crate) fn settled(self, pa: u8, pb: u8, control: u8) -> Via
         ensures { result ≡ settled_of pa pb control self }
     {
-        let a = self.a;
-        let keeps_a = flags::keeps_a(self.pcr, self.control, control, self.ifr);
-        self.kept_a = choose8(keeps_a, a.lines_for(pa), self.kept_a);
-        let keeps_b = flags::keeps_b(self.pcr, self.control, control, self.ifr);
-        self.kept_b = choose8(keeps_b, self.lines_b(pb), self.kept_b);
-        self.ifr = flags::raised(self.pcr, self.control, control, self.ifr);
-        self.a.outside = pa;
-        self.b.outside = pb;
-        self.control = control;
-        self
+        let edges = Edges {
+            pcr: self.pcr,
+            old: self.control,
+            new: control,
+        };
+        let keeps_a = edges.keeps(Side::A, self.ifr);
+        let keeps_b = edges.keeps(Side::B, self.ifr);
+        Via {
+            a: Port {
+                outside: pa,
+                ..self.a
+            },
+            kept_a: choose(keeps_a, self.a.lines_for(pa), self.kept_a),
+            b: Port {
+                outside: pb,
+                ..self.b
+            },
+            kept_b: choose(keeps_b, self.lines_b(pb), self.kept_b),
+            ifr: edges.raised(self.ifr),
+            control,
+            ..self
+        }
     }
 }

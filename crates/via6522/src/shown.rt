@@ -1,18 +1,19 @@
 // The lines of port B, and what reads of the ports show.
+#![tactic(auto, unfolding(crate::specs::Ports::lines_b, crate::specs::Ports::shown_a, crate::specs::Ports::shown_b, clocks::specs::Bits::with_bit))]
+
 ghost use Rattle.std.specs.Prelude.{◌≡◌};
 ghost use Rattle.via6522.specs.Ports.{lines_b, shown_a, shown_b};
 
 use crate::Via;
-use clocks::{bit, choose8};
+use clocks::{bit, choose};
 
 impl Via {
     // T1 may drive PB7.
     pub(crate) fn lines_b(self, outside: u8) -> u8
         ensures { result ≡ lines_b outside self }
     {
-        let b = self.b;
-        let lines = b.lines_for(outside);
-        choose8(
+        let lines = self.b.lines_for(outside);
+        choose(
             bit(7, self.acr),
             clocks::with_mask(128, self.t1.level, lines),
             lines,
@@ -22,17 +23,15 @@ impl Via {
     pub(crate) fn shown_a(self) -> u8
         ensures { result ≡ shown_a self }
     {
-        let a = self.a;
-        choose8(bit(0, self.acr) & bit(1, self.ifr), self.kept_a, a.lines())
+        let latched = bit(0, self.acr) & bit(1, self.ifr);
+        choose(latched, self.kept_a, self.a.lines())
     }
 
+    // Not port A's rule: a kept line shows only where nothing of the chip drives it.
     pub(crate) fn shown_b(self) -> u8
         ensures { result ≡ shown_b self }
     {
-        self.lines_b(choose8(
-            bit(1, self.acr) & bit(4, self.ifr),
-            self.kept_b,
-            self.b.outside,
-        ))
+        let latched = bit(1, self.acr) & bit(4, self.ifr);
+        self.lines_b(choose(latched, self.kept_b, self.b.outside))
     }
 }

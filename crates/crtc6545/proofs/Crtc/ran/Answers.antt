@@ -8,12 +8,7 @@ use Rattle.crtc6545.specs.declared.Light.{Light}
 use Rattle.crtc6545.proofs.Runs.{moved, after_moved}
 use Rattle.crtc6545.proofs.Crtc.ran.Goals as goal
 
-pub returns-then-n-eq0 : goal.returns-then-n-eq0
-unfolding after
-returns-then-n-eq0 c = rw c.if-n-eq0.true
-
 pub returns : goal.returns
-unfolding after
 returns c =
     let n = c.args.n in
     let v = c.args.self in
