@@ -1,15 +1,16 @@
 -- What lines write, one by one.
-use Rattle.std.specs.Prelude.{if◌then◌else◌}
 use mathlib.Core.Path.{◌≡◌, refl, ap, sym, ◌∙◌}
-use mathlib.Core.Bool.{Bool, true, false}
+use mathlib.Core.Bool.{true, false, true≢false}
 use mathlib.Core.List.{List, [], ◌∷◌, ◌++◌}
 use Prim.Native.Nat.{ℕ, zero, suc, ◌+◌, ◌-◌, ◌<◌, ◌≤◌}
 use native.Mathlib.Numerals.{add-one}
 use native.Mathlib.Nat.{sub-zero}
 use native.Mathlib.Omega.{arith}
-use borrow.Author.Tests.{lt-ltb, le-ltb}
-use lib.Dec.{ltb}
-use lib.ListN.{length, drop, get_or, drop_of_length-le}
+use Rattle.std.specs.Option.{option_map_or}
+use Rattle.std.specs.Prelude.{Option, None, Some, is_some, unwrap_or}
+use Rattle.clocks.proofs.Options.{none_some}
+use lib.ListN.{length, take, drop, get_or, drop_of_length-le, length-drop}
+use lib.Seq.{take-length, drop-drop}
 use Rattle.marks.specs.Marks.{closes, turns_of}
 use Rattle.marks.proofs.Matches.{from_here}
 use Rattle.blocks.specs.Blocks.{times, first, others, line_before, repeated, blocks_of, line_out, behind}
@@ -21,16 +22,16 @@ module _ {A : Type 0} (line : A → List ℕ) where
   closing k x xs c = rw c
 
   pub opening :
-      (k : ℕ) (x : A) (xs : List A) → closes (line x) ≡ false → turns_of k (line x) < 65536
-      → blocks_of line k (x ∷ xs) ≡ repeated (turns_of k (line x)) (blocks_of line (k - 1) xs)
+      (k : ℕ) (x : A) (xs : List A) (n : ℕ) → closes (line x) ≡ false → turns_of k (line x) ≡ Some n
+      → blocks_of line k (x ∷ xs) ≡ repeated n (blocks_of line (k - 1) xs)
   unfolding blocks_of
-  opening k x xs c h = rw (c, lt-ltb _ _ h)
+  opening k x xs n c h = rw (c, h)
 
   pub plain :
-      (k : ℕ) (x : A) (xs : List A) → closes (line x) ≡ false → 65536 ≤ turns_of k (line x)
+      (k : ℕ) (x : A) (xs : List A) → closes (line x) ≡ false → turns_of k (line x) ≡ None
       → blocks_of line k (x ∷ xs) ≡ line_before x (blocks_of line k xs)
   unfolding blocks_of
-  plain k x xs c h = rw (c, le-ltb _ _ h)
+  plain k x xs c h = rw (c, h)
 
   -- what a line that does not close writes comes first
   pub by_line :
@@ -38,37 +39,44 @@ module _ {A : Type 0} (line : A → List ℕ) where
       → (first (blocks_of line k (x ∷ xs)) ≡ line_out line k x xs ++ first (behind line k x xs))
       × (others (blocks_of line k (x ∷ xs)) ≡ others (behind line k x xs))
   unfolding blocks_of line_out behind
-  by_line k x xs c = rw c (go (ltb (turns_of k (line x)) 65536))
+  by_line k x xs c = rw c (go (turns_of k (line x)))
     where
       go :
-          (b : Bool)
-          → (first (if b then repeated (turns_of k (line x)) (blocks_of line (k - 1) xs) else line_before x (blocks_of line k xs))
-          ≡ (if b then times (turns_of k (line x)) (first (blocks_of line (k - 1) xs)) else x ∷ []) ++ first (if b then others (blocks_of line (k - 1) xs) else blocks_of line k xs))
-          × (others (if b then repeated (turns_of k (line x)) (blocks_of line (k - 1) xs) else line_before x (blocks_of line k xs))
-          ≡ others (if b then others (blocks_of line (k - 1) xs) else blocks_of line k xs))
-      go true = (refl, refl)
-      go false = (refl, refl)
+          (o : Option ℕ)
+          → (first (option_map_or (λ n. repeated n (blocks_of line (k - 1) xs)) o (line_before x (blocks_of line k xs)))
+          ≡ option_map_or (λ n. times n (first (blocks_of line (k - 1) xs))) o (x ∷ []) ++ first (option_map_or (λ n. others (blocks_of line (k - 1) xs)) o (blocks_of line k xs)))
+          × (others (option_map_or (λ n. repeated n (blocks_of line (k - 1) xs)) o (line_before x (blocks_of line k xs)))
+          ≡ others (option_map_or (λ n. others (blocks_of line (k - 1) xs)) o (blocks_of line k xs)))
+      go None = (refl, refl)
+      go (Some n) = (refl, refl)
 
   pub opens_out :
-      (k : ℕ) (x : A) (xs : List A) → turns_of k (line x) < 65536
-      → (line_out line k x xs ≡ times (turns_of k (line x)) (first (blocks_of line (k - 1) xs)))
-      × (behind line k x xs ≡ others (blocks_of line (k - 1) xs))
+      (k : ℕ) (x : A) (xs : List A) (n : ℕ) → turns_of k (line x) ≡ Some n
+      → (line_out line k x xs ≡ times n (first (blocks_of line (k - 1) xs))) × (behind line k x xs ≡ others (blocks_of line (k - 1) xs))
   unfolding line_out behind
-  opens_out k x xs h = (rw (lt-ltb _ _ h), rw (lt-ltb _ _ h))
+  opens_out k x xs n h = (rw h, rw h)
 
-  pub plain_out : (k : ℕ) (x : A) (xs : List A) → 65536 ≤ turns_of k (line x) → (line_out line k x xs ≡ x ∷ []) × (behind line k x xs ≡ blocks_of line k xs)
+  pub plain_out : (k : ℕ) (x : A) (xs : List A) → turns_of k (line x) ≡ None → (line_out line k x xs ≡ x ∷ []) × (behind line k x xs ≡ blocks_of line k xs)
   unfolding line_out behind
-  plain_out k x xs h = (rw (le-ltb _ _ h), rw (le-ltb _ _ h))
+  plain_out k x xs h = (rw h, rw h)
 
   pub no_lines : (k : ℕ) → blocks_of line k [] ≡ []
   unfolding blocks_of
   no_lines k = refl
 
 -- a line that opens has a level left
-pub opens_level : (k : ℕ) (l : List ℕ) → turns_of k l < 65536 → 0 < k
+pub opens_level : (k : ℕ) (l : List ℕ) (n : ℕ) → turns_of k l ≡ Some n → 0 < k
 unfolding turns_of
-opens_level zero l h = absurd (omega arith)
-opens_level (suc k) l h = omega arith
+opens_level zero l n h = absurd (none_some n h)
+opens_level (suc k) l n h = omega arith
+
+pub is_the : (o : Option ℕ) → is_some o ≡ true → o ≡ Some (unwrap_or o 0)
+is_the None h = absurd (true≢false (sym h))
+is_the (Some n) h = refl
+
+pub is_none : (o : Option ℕ) → is_some o ≡ false → o ≡ None
+is_none None h = refl
+is_none (Some n) h = absurd (true≢false h)
 
 -- ---- behind a block
 
@@ -86,40 +94,36 @@ unfolding outside
 none_outside zero = refl
 none_outside (suc d) = none_outside d
 
--- on the way to the close of the block that begins at `at`, in `depth` blocks inside it
-pub record Passing (line : ℕ → List ℕ) (table : List ℕ) (at levels here depth : ℕ) : Type 0 where
-  pub begun : at ≤ here
+-- on the way through the lines from the start of a block to its close, in `depth` blocks inside it
+pub record Passing (line : ℕ → List ℕ) (table : List ℕ) (levels here depth : ℕ) : Type 0 where
   pub within : here ≤ length table
   pub level : depth ≤ levels
-  pub same : outside (depth + 1) (blocks_of line (levels - depth) (drop here table)) ≡ others (blocks_of line levels (drop at table))
+  pub same : outside (depth + 1) (blocks_of line (levels - depth) (drop here table)) ≡ others (blocks_of line levels table)
 
-pub passing_start : (line : ℕ → List ℕ) (table : List ℕ) (at levels : ℕ) → at ≤ length table → Passing line table at levels at 0
+pub passing_start : (line : ℕ → List ℕ) (table : List ℕ) (levels : ℕ) → Passing line table levels 0 0
 unfolding outside
-passing_start line table at levels h =
+passing_start line table levels =
     record {
-      begun = omega arith;
-      within = h;
+      within = omega arith;
       level = omega arith;
-      same = out_of 0 (blocks_of line (levels - 0) (drop at table)) ∙ rw sub-zero;
+      same = out_of 0 (blocks_of line (levels - 0) table) ∙ rw sub-zero;
     }
 
-module _ {line : ℕ → List ℕ} {table : List ℕ} {at levels here depth : ℕ} (c : Passing line table at levels here depth) where
+module _ {line : ℕ → List ℕ} {table : List ℕ} {levels here depth : ℕ} (c : Passing line table levels here depth) where
   -- what is outside, with the line here cut off
   rest_is :
       (bs : List (List ℕ)) → here < length table → blocks_of line (levels - depth) (get_or table here 0 ∷ drop (here + 1) table) ≡ bs
-      → outside depth (others bs) ≡ others (blocks_of line levels (drop at table))
+      → outside depth (others bs) ≡ others (blocks_of line levels table)
   rest_is bs h e =
       sym (out_of depth bs) ∙ ap (outside (depth + 1)) (sym (ap (blocks_of line (levels - depth)) (from_here table here h) ∙ e)) ∙ c.same
 
   pub passing_close :
-      here < length table → closes (line (get_or table here 0)) ≡ true → (depth ≡ 0 → ⊥) → Passing line table at levels (here + 1) (depth - 1)
+      here < length table → closes (line (get_or table here 0)) ≡ true → (depth ≡ 0 → ⊥) → Passing line table levels (here + 1) (depth - 1)
   passing_close h k n =
-      let b = c.begun in
       let l = c.level in
       let z : depth - 1 + 1 ≡ depth = omega arith in
       let y : levels - (depth - 1) ≡ levels - depth + 1 = omega arith in
       record {
-        begun = omega arith;
         within = omega arith;
         level = omega arith;
         same = rw (z, y) (rest_is _ h (closing line (levels - depth) _ _ k));
@@ -127,46 +131,63 @@ module _ {line : ℕ → List ℕ} {table : List ℕ} {at levels here depth : �
 
   pub passing_shut :
       here < length table → closes (line (get_or table here 0)) ≡ true → depth ≡ 0
-      → ((at ≤ here + 1) × (here + 1 ≤ length table))
-      × (blocks_of line (levels + 1) (drop (here + 1) table) ≡ others (blocks_of line levels (drop at table)))
+      → (here + 1 ≤ length table)
+      × (blocks_of line (levels + 1) (drop (here + 1) table) ≡ others (blocks_of line levels table))
   unfolding outside
   passing_shut h k n =
-      let b = c.begun in
       let y : levels + 1 ≡ levels - depth + 1 = omega arith in
       let r = rest_is _ h (closing line (levels - depth) _ _ k) in
-      ((omega arith, omega arith), rw y (sym (ap (λ (d : ℕ). outside d (blocks_of line (levels - depth + 1) (drop (here + 1) table))) n) ∙ r))
+      (omega arith, rw y (sym (ap (λ (d : ℕ). outside d (blocks_of line (levels - depth + 1) (drop (here + 1) table))) n) ∙ r))
 
-  pub passing_open :
-      here < length table → closes (line (get_or table here 0)) ≡ false → turns_of (levels - depth) (line (get_or table here 0)) < 65536
-      → Passing line table at levels (here + 1) (depth + 1)
-  passing_open h k n =
-      let b = c.begun in
-      let o = opens_level (levels - depth) _ n in
+  passing_opened :
+      (m : ℕ) → here < length table → closes (line (get_or table here 0)) ≡ false → turns_of (levels - depth) (line (get_or table here 0)) ≡ Some m
+      → Passing line table levels (here + 1) (depth + 1)
+  passing_opened m h k n =
+      let o = opens_level (levels - depth) _ m n in
       let y : levels - (depth + 1) ≡ levels - depth - 1 = omega arith in
       let bs = blocks_of line (levels - depth - 1) (drop (here + 1) table) in
       record {
-        begun = omega arith;
         within = omega arith;
         level = omega arith;
-        same = rw y (out_of (depth + 1) bs ∙ out_of depth (others bs) ∙ rest_is _ h (opening line (levels - depth) _ _ k n));
+        same = rw y (out_of (depth + 1) bs ∙ out_of depth (others bs) ∙ rest_is _ h (opening line (levels - depth) _ _ m k n));
       }
 
+  pub passing_open :
+      here < length table → closes (line (get_or table here 0)) ≡ false → is_some (turns_of (levels - depth) (line (get_or table here 0))) ≡ true
+      → Passing line table levels (here + 1) (depth + 1)
+  passing_open h k n = passing_opened _ h k (is_the _ n)
+
   pub passing_line :
-      here < length table → closes (line (get_or table here 0)) ≡ false → 65536 ≤ turns_of (levels - depth) (line (get_or table here 0))
-      → Passing line table at levels (here + 1) depth
+      here < length table → closes (line (get_or table here 0)) ≡ false → is_some (turns_of (levels - depth) (line (get_or table here 0))) ≡ false
+      → Passing line table levels (here + 1) depth
   passing_line h k n =
-      let b = c.begun in
       record {
-        begun = omega arith;
         within = omega arith;
         level = c.level;
-        same = out_of depth _ ∙ rest_is _ h (plain line (levels - depth) _ _ k n);
+        same = out_of depth _ ∙ rest_is _ h (plain line (levels - depth) _ _ k (is_none _ n));
       }
 
   pub passing_end :
       length table ≤ here
-      → ((at ≤ here) × (here ≤ length table)) × (blocks_of line (levels + 1) (drop here table) ≡ others (blocks_of line levels (drop at table)))
+      → (length table ≤ length table) × (blocks_of line (levels + 1) (drop (length table) table) ≡ others (blocks_of line levels table))
   passing_end h =
+      let i = c.within in
       let d : drop here table ≡ [] = drop_of_length-le table {i = here} h in
-      let e : (k : ℕ) → blocks_of line k (drop here table) ≡ [] = λ k. ap (blocks_of line k) d ∙ no_lines line k in
-      ((c.begun, c.within), e (levels + 1) ∙ sym (none_outside (depth + 1)) ∙ ap (outside (depth + 1)) (sym (e (levels - depth))) ∙ c.same)
+      let d' : drop (length table) table ≡ [] = drop_of_length-le table {i = length table} (omega arith) in
+      let e : blocks_of line (levels - depth) (drop here table) ≡ [] = ap (blocks_of line (levels - depth)) d ∙ no_lines line (levels - depth) in
+      let e' : blocks_of line (levels + 1) (drop (length table) table) ≡ [] = ap (blocks_of line (levels + 1)) d' ∙ no_lines line (levels + 1) in
+      (omega arith, e' ∙ sym (none_outside (depth + 1)) ∙ ap (outside (depth + 1)) (sym e) ∙ c.same)
+
+-- of a table from a place on: what lies behind its first n lines, in the whole table
+pub passed :
+    (line : ℕ → List ℕ) (table : List ℕ) (at levels n m : ℕ)
+    → let t = take (length table - at) (drop at table) in
+    at ≤ length table → m ≡ at + n → (n ≤ length t) × (blocks_of line (levels + 1) (drop n t) ≡ others (blocks_of line levels t))
+    → ((at ≤ m) × (m ≤ length table)) × (blocks_of line (levels + 1) (drop m table) ≡ others (blocks_of line levels (drop at table)))
+passed line table at levels n m h e p =
+    let t = take (length table - at) (drop at table) in
+    let all : t ≡ drop at table = ap (λ (k : ℕ). take k (drop at table)) (sym (length-drop at table)) ∙ take-length (drop at table) in
+    let size : length t ≡ length table - at = ap length all ∙ length-drop at table in
+    let rest : drop m table ≡ drop n t = ap (λ (k : ℕ). drop k table) e ∙ sym (drop-drop n at table) ∙ sym (ap (drop n) all) in
+    let few = p.0 in
+    ((omega arith, omega arith), ap (blocks_of line (levels + 1)) rest ∙ p.1 ∙ ap (λ (xs : List ℕ). others (blocks_of line levels xs)) all)

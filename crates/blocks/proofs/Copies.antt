@@ -1,16 +1,18 @@
 -- What was noted last comes again, copied.
-use mathlib.Core.Path.{◌≡◌, refl, ap, sym, ◌∙◌}
-use mathlib.Core.List.{List, [], ◌∷◌, ◌++◌}
+use mathlib.Core.Path.{◌≡◌, refl, ap, ap₂, sym, ◌∙◌}
+use mathlib.Core.List.{List, [], ◌++◌}
 use Prim.Native.Nat.{ℕ, ◌+◌, ◌-◌, ◌*◌, ◌/◌, ◌<◌, ◌≤◌, min}
-use native.Mathlib.Decide.{dec_lt}
-use native.Mathlib.Numerals.{add-one}
-use native.Mathlib.Nat.{add-zero, le_trans, mul-le-mul_right, div-mul-le_self}
+use native.Mathlib.Decide.{dec_le, dec_lt}
+use native.Mathlib.Nat.{le_trans, mul-le-mul_right, div-mul-le_self}
 use native.Mathlib.Omega.{arith}
-use lib.ListN.{length, take, drop, set, get_or, length-set, length-take, length-drop, take-append-drop}
-use lib.Seq.{take-suc, take_all, take-set-le, get_or-take, get_or-drop, length-take-le}
+use lib.ListN.{length, take, drop, length-drop, take-append-drop, length-append}
+use lib.Seq.{take_at, drop_at}
+use lib.Seq.{take_all, length-take-le}
+use Rattle.std.specs.List.{copy_within}
+use Rattle.clocks.proofs.Lists.{same_halves, take_min}
 use Rattle.blocks.specs.Blocks.{times}
 use Rattle.blocks.specs.Windows.{Window, window, notes}
-use Rattle.blocks.proofs.Windows.{put, none, one, notes_append, full, Came, came, leaps, lasts, never, once_more, more_often, length_times, times_none}
+use Rattle.blocks.proofs.Windows.{none, notes_append, full, stays, Filled, fills, Came, came, leaps, lasts, never, once_more, more_often, length_times, times_none}
 
 -- the last `size` of the first `used`
 abbrev pub last : ℕ → ℕ → List ℕ → List ℕ
@@ -19,57 +21,58 @@ last size used l = take size (drop (used - size) l)
 length_last : (size used : ℕ) (l : List ℕ) → size ≤ used → used ≤ length l → length (last size used l) ≡ size
 length_last size used l h g = length-take-le size (drop (used - size) l) (omega (arith, length-drop (used - size) l))
 
--- the first i of them are copied
-pub record Copying (out₀ : List ℕ) (used size : ℕ) (out : List ℕ) (to i : ℕ) : Type 0 where
-  pub within : i ≤ size
-  pub place : to ≡ used + i
-  pub sized : length out ≡ length out₀
-  pub front : take used out ≡ take used out₀
-  pub noted : window 0 to out ≡ notes (window 0 used out₀) (take i (last size used out₀))
+-- as many of them as there is room for are copied
+pub copied_is :
+    (out now : List ℕ) (used size fits : ℕ) → size ≤ used → used ≤ length out → fits ≡ min size (length out - used)
+    → now ≡ copy_within out (used - size) (used - size + fits) used
+    → window 0 (used + fits) now ≡ notes (window 0 used out) (last size used out)
+copied_is out now used size fits h g e f = kept ∙ more (dec_le (used + size) (length out))
+  where
+    w : Window
+    w = window 0 used out
 
-pub copying_start : (out : List ℕ) (used size : ℕ) → Copying out used size out used 0
-copying_start out used size =
-    record { within = omega arith; place = sym (add-zero used); sized = refl; front = refl; noted = sym (none (window 0 used out)) }
+    o : List ℕ
+    o = last size used out
 
-module _ {out₀ : List ℕ} {used size : ℕ} {out : List ℕ} {to i : ℕ} (c : Copying out₀ used size out to i) where
-  from_before : size ≤ used → i < size → get_or out (used - size + i) 0 ≡ get_or (last size used out₀) i 0
-  from_before h g =
-      let j = used - size + i in
-      let k : j < used = omega arith in
-      sym (get_or-take used out j 0 k) ∙ ap (λ (l : List ℕ). get_or l j 0) c.front ∙ get_or-take used out₀ j 0 k
-      ∙ sym (get_or-drop (used - size) out₀ i 0) ∙ sym (get_or-take size (drop (used - size) out₀) i 0 g)
+    v : Window
+    v = notes w (take fits o)
 
-  pub copying_one :
-      size ≤ used → used ≤ length out₀ → i < size → to < length out
-      → Copying out₀ used size (set out to (get_or out (used - size + i) 0)) (to + 1) (i + 1)
-  copying_one h g k r =
-      let p = get_or out (used - size + i) 0 in
-      let o = last size used out₀ in
-      let w = window 0 used out₀ in
-      let e = c.place in
-      let n = length_last size used out₀ h g in
-      let t : take (i + 1) o ≡ take i o ++ (p ∷ []) = rw (add-one, from_before h k) (take-suc o i 0 (omega (arith, n))) in
-      record {
-        within = omega arith;
-        place = omega arith;
-        sized = length-set out to p ∙ c.sized;
-        front = take-set-le used out to p (omega arith) ∙ c.front;
-        noted =
-            sym (ap (notes w) t ∙ notes_append w (take i o) (p ∷ []) ∙ ap (λ (v : Window). notes v (p ∷ [])) (sym c.noted)
-            ∙ one (window 0 to out) p ∙ put to out p r);
-      }
+    n : length o ≡ size
+    n = length_last size used out h g
 
-  pub copying_full : length out ≤ to → window 0 to out ≡ notes (window 0 used out₀) (last size used out₀)
-  copying_full h =
-      let o = last size used out₀ in
-      let w = window 0 used out₀ in
-      sym (ap (notes w) (sym (take-append-drop i o)) ∙ notes_append w (take i o) (drop i o)
-      ∙ ap (λ (v : Window). notes v (drop i o)) (sym c.noted) ∙ full to out (drop i o) h)
+    t : length (take fits o) ≡ fits
+    t = length-take-le fits o (omega (arith, n, e))
 
-  pub copying_end : size ≤ i → window 0 to out ≡ notes (window 0 used out₀) (last size used out₀)
-  copying_end h =
-      c.noted
-      ∙ ap (notes (window 0 used out₀)) (take_all i (last size used out₀) (omega (arith, length-take size (drop (used - size) out₀))))
+    filled : Filled used out (take fits o) v
+    filled = fills used out (take fits o) (omega (arith, t, e))
+
+    shorter : take fits o ≡ take fits (drop (used - size) out)
+    shorter = let z : min fits size ≡ fits = omega (arith, e) in take_min fits size (drop (used - size) out) ∙ rw z
+
+    now_is : now ≡ (take used out ++ take fits o) ++ drop (used + fits) out
+    now_is =
+        let z : used - size + fits - (used - size) ≡ fits = omega arith in
+        f ∙ rw (z, ← shorter)
+
+    head : length (take used out ++ take fits o) ≡ used + fits
+    head = rw (length-append (take used out) (take fits o)) (omega (arith, t, length-take-le used out g))
+
+    front : take (used + fits) v.seen ≡ take (used + fits) now
+    front = rw t at filled.front ∙ sym (ap (take (used + fits)) now_is ∙ take_at _ _ (used + fits) head)
+
+    back : drop (used + fits) v.seen ≡ drop (used + fits) now
+    back = rw t at filled.beyond ∙ sym (ap (drop (used + fits)) now_is ∙ drop_at _ _ (used + fits) head)
+
+    kept : window 0 (used + fits) now ≡ v
+    kept =
+        ap₂ (λ (m : ℕ) (l : List ℕ). window 0 m l) (sym (rw t at filled.used)) (sym (same_halves (used + fits) (used + fits) v.seen now refl front back))
+        ∙ ap (λ (k : ℕ). window k v.used v.seen) (sym filled.skip)
+
+    more : Dec (used + size ≤ length out) → v ≡ notes w o
+    more (yes q) = ap (notes w) (take_all fits o (omega (arith, n, e)))
+    more (no q) =
+        sym (ap (notes w) (sym (take-append-drop fits o)) ∙ notes_append w (take fits o) (drop fits o)
+        ∙ stays v (drop fits o) filled.skip (omega (arith, filled.size, filled.used, t, e)))
 
 -- they came i times again, and where there is still room they are the last
 pub record Repeating (out₀ : List ℕ) (used size : ℕ) (out : List ℕ) (to i : ℕ) : Type 0 where

@@ -3,9 +3,12 @@ use Rattle.std.specs.Prelude.{if◌then◌else◌}
 use mathlib.Core.Path.{◌≡◌, refl, ap, sym, ◌∙◌}
 use mathlib.Core.Bool.{Bool, true, false, ◌||◌, true≢false}
 use mathlib.Core.List.{List, [], ◌∷◌, ◌++◌, append_assoc}
-use Prim.Native.Nat.{ℕ, zero, suc, ◌+◌, ◌-◌, ◌<◌, ◌≤◌}
+use Prim.Native.Nat.{ℕ, zero, suc, ◌+◌, ◌-◌, ◌≤◌}
 use native.Mathlib.Omega.{arith}
-use borrow.Author.Tests.{lt-ltb, ltb-true, ltb-false}
+use Rattle.std.specs.Prelude.{Result, Ok, Err, is_ok, unwrap_or}
+use Rattle.marks.specs.declared.Refusal.{Refusal}
+use Rattle.marks.specs.declared.Refusal.TheVariants.{TooDeep, Unmatched}
+use borrow.Author.Tests.{lt-ltb, ltb-false}
 use lib.Dec.{eqb, ltb}
 use Rattle.marks.specs.Marks.{closes, count_of, opens}
 use Rattle.marks.specs.Matches.{deeper, unmatched, match_of}
@@ -65,7 +68,7 @@ module _ (x : List ℕ) (xs : List (List ℕ)) (rest : (d : ℕ) → d ≤ 4 →
 
   opened : (d : ℕ) → closes x ≡ false → opens x ≡ true → deeper itself d (x ∷ xs) ≡ false → unmatched itself d (x ∷ xs) ≡ false → Parsed d (x ∷ xs)
   opened d k o a b =
-      let t = at_open itself d x xs k (ltb-true (count_of x) 65536 o) in
+      let t = at_open itself d x xs k o in
       let u = nothing_left (ltb 4 (d + 1)) (deeper itself (d + 1) xs) (sym t.0 ∙ a) in
       let m : d + 1 ≤ 4 = ltb-false 4 (d + 1) u.0 in
       let z : suc d ≡ d + 1 = omega arith in
@@ -74,7 +77,7 @@ module _ (x : List ℕ) (xs : List (List ℕ)) (rest : (d : ℕ) → d ≤ 4 →
 
   passed : (d : ℕ) → d ≤ 4 → closes x ≡ false → opens x ≡ false → deeper itself d (x ∷ xs) ≡ false → unmatched itself d (x ∷ xs) ≡ false → Parsed d (x ∷ xs)
   passed d h k o a b =
-      let t = at_plain itself d x xs k (ltb-false (count_of x) 65536 o) in
+      let t = at_plain itself d x xs k o in
       with_line d x xs k o (rest d h (sym t.0 ∙ a) (sym t.1 ∙ b))
 
   any : (d : ℕ) (p q : Bool) → closes x ≡ p → opens x ≡ q → d ≤ 4 → deeper itself d (x ∷ xs) ≡ false → unmatched itself d (x ∷ xs) ≡ false → Parsed d (x ∷ xs)
@@ -88,16 +91,16 @@ parsed [] zero h a b = (end, tt, omega arith, refl)
 parsed [] (suc d) h a b = absurd (true≢false (sym (still_open itself (suc d) ∙ lt-ltb 0 (suc d) (omega arith)) ∙ b))
 parsed (x ∷ xs) d h a b = any x xs (λ e. parsed xs e) d (closes x) (opens x) refl refl h a b
 
--- neither number is given
-some : (n : ℕ) → 0 < n → n ≡ 0 → ⊥
-some n h e = omega arith
+-- neither refusal is given
+refused : (r : Refusal) → ◌≡◌ {A = Result (Unit {0}) Refusal} (Err r) (Ok tt) → ⊥
+refused r e = true≢false (sym (ap is_ok e))
 
-neither : (a b : Bool) → ◌≡◌ {A = ℕ} (if a then 27 else (if b then 28 else 0)) 0 → (a ≡ false) × (b ≡ false)
-neither true b e = absurd (some 27 (omega arith) e)
-neither false true e = absurd (some 28 (omega arith) e)
+neither : (a b : Bool) → ◌≡◌ {A = Result (Unit {0}) Refusal} (if a then Err TooDeep else (if b then Err Unmatched else Ok tt)) (Ok tt) → (a ≡ false) × (b ≡ false)
+neither true b e = absurd (refused TooDeep e)
+neither false true e = absurd (refused Unmatched e)
 neither false false e = (refl, refl)
 
-pub is_meant : (ls : List (List ℕ)) → match_of itself ls ≡ 0 → Meant ls
+pub is_meant : (ls : List (List ℕ)) → match_of itself ls ≡ Ok tt → Meant ls
 unfolding match_of Parsed
 is_meant ls e = let n = neither (deeper itself 0 ls) (unmatched itself 0 ls) e in parsed ls 0 (omega arith) n.0 n.1
 
@@ -117,9 +120,9 @@ run_plain : (t : Script) → Formed t → Plain (run t)
 unfolding run Formed Plain
 run_plain end f = tt
 run_plain (line l t) f = (f.0, f.1, run_plain t f.2)
-run_plain (block o b c t) f = join (times (count_of o) (run b)) (run t) (often (count_of o) (run b) (run_plain b f.2)) (run_plain t f.4)
+run_plain (block o b c t) f = join (times (unwrap_or (count_of o) 0) (run b)) (run t) (often (unwrap_or (count_of o) 0) (run b) (run_plain b f.2)) (run_plain t f.4)
 
-pub marks_gone : (ls : List (List ℕ)) → match_of itself ls ≡ 0 → Plain (written_out itself ls)
+pub marks_gone : (ls : List (List ℕ)) → match_of itself ls ≡ Ok tt → Plain (written_out itself ls)
 marks_gone ls e =
     let (t, f, d, q) = is_meant ls e in
     rw (← q, written_as_meant t f d) (run_plain t f)

@@ -5,23 +5,24 @@ use mathlib.Core.Bool.{Bool, true, false, ◌||◌}
 use mathlib.Core.List.{List, [], ◌∷◌, ◌++◌, append_assoc, append-nil}
 use Prim.Native.Nat.{ℕ, ◌+◌, ◌-◌, ◌<◌, ◌≤◌}
 use native.Mathlib.Omega.{arith}
-use borrow.Author.Tests.{lt-ltb, le-ltb, ltb-true, ltb-false, ne_eqb}
+use Rattle.std.specs.Prelude.{Option, None, Some, Ok, unwrap_or}
+use borrow.Author.Tests.{lt-ltb, le-ltb, ne_eqb}
 use lib.Dec.{ltb}
 use Rattle.marks.specs.Marks.{count_of, opens, turns_of}
 use Rattle.marks.specs.Matches.{deeper, unmatched, match_of}
 use Rattle.marks.proofs.Matches.{at_close, at_open, at_plain, no_deeper, still_open}
 use Rattle.blocks.specs.Blocks.{itself, times, first, others, repeated, blocks_of, written_out}
 use Rattle.blocks.specs.Demands.{Script, end, line, block, typed, run, depth, Formed, Plain}
-use Rattle.blocks.proofs.Blocks.{closing, opening, plain}
+use Rattle.blocks.proofs.Blocks.{closing, opening, plain, is_the, is_none}
 
 -- a level more or less is none to a line that opens nothing, and with a level left its count is what it says
-turns_none : (k : ℕ) (l : List ℕ) → opens l ≡ false → 65536 ≤ turns_of k l
+turns_none : (k : ℕ) (l : List ℕ) → opens l ≡ false → turns_of k l ≡ None
 unfolding turns_of
 turns_none k l h = go (ltb 0 k)
   where
-    go : (b : Bool) → 65536 ≤ (if b then count_of l else 65536)
-    go true = ltb-false (count_of l) 65536 h
-    go false = omega arith
+    go : (b : Bool) → ◌≡◌ {A = Option ℕ} (if b then count_of l else None) None
+    go true = is_none (count_of l) h
+    go false = refl
 
 turns_some : (k : ℕ) (l : List ℕ) → 0 < k → turns_of k l ≡ count_of l
 unfolding turns_of
@@ -44,18 +45,18 @@ written (block o b c t) k ls f d =
     let zs = typed t ++ ls in
     let some : 0 < k = omega arith in
     let z : k - 1 + 1 ≡ k = omega arith in
-    let n : turns_of k o ≡ count_of o = turns_some k o some in
-    let small : turns_of k o < 65536 = rw n (ltb-true (count_of o) 65536 f.1) in
+    let m = unwrap_or (count_of o) 0 in
+    let n : turns_of k o ≡ Some m = turns_some k o some ∙ is_the (count_of o) f.1 in
     let shut : blocks_of itself (k - 1) (c ∷ zs) ≡ [] ∷ blocks_of itself k zs = closing itself (k - 1) c zs f.3 ∙ ap (λ (j : ℕ). [] ∷ blocks_of itself j zs) z in
     let i = written b (k - 1) (c ∷ zs) f.2 (omega arith) in
     let r = written t k ls f.4 (omega arith) in
     let inner : first (blocks_of itself (k - 1) (typed b ++ c ∷ zs)) ≡ run b = i.0 ∙ ap (λ (bs : List (List (List ℕ))). run b ++ first bs) shut ∙ append-nil (run b) in
     let outer : others (blocks_of itself (k - 1) (typed b ++ c ∷ zs)) ≡ blocks_of itself k zs = i.1 ∙ ap others shut in
-    let e : blocks_of itself k (o ∷ ((typed b ++ c ∷ typed t) ++ ls)) ≡ repeated (turns_of k o) (blocks_of itself (k - 1) (typed b ++ c ∷ zs)) =
-    ap (λ (xs : List (List ℕ)). blocks_of itself k (o ∷ xs)) (append_assoc (typed b) (c ∷ typed t) ls) ∙ opening itself k o (typed b ++ c ∷ zs) f.0 small in (
+    let e : blocks_of itself k (o ∷ ((typed b ++ c ∷ typed t) ++ ls)) ≡ repeated m (blocks_of itself (k - 1) (typed b ++ c ∷ zs)) =
+    ap (λ (xs : List (List ℕ)). blocks_of itself k (o ∷ xs)) (append_assoc (typed b) (c ∷ typed t) ls) ∙ opening itself k o (typed b ++ c ∷ zs) m f.0 n in (
       ap first e
-          ∙ ap₂ (λ (xs ys : List (List ℕ)). xs ++ ys) (ap₂ (λ (m : ℕ) (xs : List (List ℕ)). times m xs) n inner) (ap first outer ∙ r.0)
-          ∙ sym (append_assoc (times (count_of o) (run b)) (run t) (first (blocks_of itself k ls))),
+          ∙ ap₂ (λ (xs ys : List (List ℕ)). xs ++ ys) (ap (times m) inner) (ap first outer ∙ r.0)
+          ∙ sym (append_assoc (times m (run b)) (run t) (first (blocks_of itself k ls))),
       ap others e ∙ ap others outer ∙ r.1,
     )
 
@@ -72,12 +73,12 @@ unfolding typed depth Formed
 matching end d ls f h = (refl, refl)
 matching (line l t) d ls f h =
     let r = matching t d ls f.2 h in
-    let p = at_plain itself d l (typed t ++ ls) f.0 (ltb-false (count_of l) 65536 f.1) in
+    let p = at_plain itself d l (typed t ++ ls) f.0 f.1 in
     (p.0 ∙ r.0, p.1 ∙ r.1)
 matching (block o b c t) d ls f h =
     let zs = typed t ++ ls in
     let a = append_assoc (typed b) (c ∷ typed t) ls in
-    let p = at_open itself d o (typed b ++ c ∷ zs) f.0 (ltb-true (count_of o) 65536 f.1) in
+    let p = at_open itself d o (typed b ++ c ∷ zs) f.0 f.1 in
     let i = matching b (d + 1) (c ∷ zs) f.2 (omega arith) in
     let q = at_close itself (d + 1) c zs f.3 in
     let r = matching t d ls f.4 (omega arith) in
@@ -92,11 +93,11 @@ matching (block o b c t) d ls f h =
     )
 
 -- neither too deep nor unmatched
-fine : (ls : List (List ℕ)) → deeper itself 0 ls ≡ false → unmatched itself 0 ls ≡ false → match_of itself ls ≡ 0
+fine : (ls : List (List ℕ)) → deeper itself 0 ls ≡ false → unmatched itself 0 ls ≡ false → match_of itself ls ≡ Ok tt
 unfolding match_of
 fine ls d u = rw (d, u)
 
-pub matches_as_meant : (t : Script) → Formed t → depth t ≤ 4 → match_of itself (typed t) ≡ 0
+pub matches_as_meant : (t : Script) → Formed t → depth t ≤ 4 → match_of itself (typed t) ≡ Ok tt
 matches_as_meant t f d =
     let m = matching t 0 [] f (omega arith) in
     let e = append-nil (typed t) in
@@ -120,7 +121,7 @@ unfolding script Formed Plain
 formed [] p = tt
 formed (l ∷ ls) p = (p.0, p.1, formed ls p.2)
 
-pub plain_stays : (ls : List (List ℕ)) → Plain ls → (written_out itself ls ≡ ls) × (match_of itself ls ≡ 0)
+pub plain_stays : (ls : List (List ℕ)) → Plain ls → (written_out itself ls ≡ ls) × (match_of itself ls ≡ Ok tt)
 plain_stays ls p =
     let s = as_script ls in
     let f = formed ls p in

@@ -4,7 +4,8 @@ use mathlib.Core.Path.{◌≡◌, refl, ap, ap₂, sym, ◌∙◌}
 use mathlib.Core.Bool.{Bool, true, false}
 use mathlib.Core.List.{List, [], ◌∷◌, ◌++◌}
 use Prim.Native.Nat.{ℕ, zero, suc, ◌+◌, ◌-◌}
-use lib.Dec.{ltb}
+use Rattle.std.specs.Prelude.{Option, None, Some}
+use Rattle.std.specs.Option.{option_map_or}
 use lib.ListN.{length}
 use Rattle.lines.specs.Places.{line_at, lines_at}
 use Rattle.lines.proofs.Places.{lines_length, lines_append}
@@ -51,17 +52,17 @@ module _ (s : List ℕ) where
   blocks_at : (k : ℕ) (ps : List ℕ) → each (blocks_of (line_at s) k ps) ≡ blocks_of itself k (lines_at s ps)
   unfolding blocks_of each
   blocks_at k [] = refl
-  blocks_at k (p ∷ ps) = go (closes (line_at s p)) (ltb (turns_of k (line_at s p)) 65536) (blocks_at (k + 1) ps) (blocks_at (k - 1) ps) (blocks_at k ps)
+  blocks_at k (p ∷ ps) = go (closes (line_at s p)) (turns_of k (line_at s p)) (blocks_at (k + 1) ps) (blocks_at (k - 1) ps) (blocks_at k ps)
     where
       go :
-          (b c : Bool) → each (blocks_of (line_at s) (k + 1) ps) ≡ blocks_of itself (k + 1) (lines_at s ps)
+          (b : Bool) (o : Option ℕ) → each (blocks_of (line_at s) (k + 1) ps) ≡ blocks_of itself (k + 1) (lines_at s ps)
           → each (blocks_of (line_at s) (k - 1) ps) ≡ blocks_of itself (k - 1) (lines_at s ps)
           → each (blocks_of (line_at s) k ps) ≡ blocks_of itself k (lines_at s ps)
-          → each (if b then [] ∷ blocks_of (line_at s) (k + 1) ps else (if c then repeated (turns_of k (line_at s p)) (blocks_of (line_at s) (k - 1) ps) else line_before p (blocks_of (line_at s) k ps)))
-          ≡ (if b then [] ∷ blocks_of itself (k + 1) (lines_at s ps) else (if c then repeated (turns_of k (line_at s p)) (blocks_of itself (k - 1) (lines_at s ps)) else line_before (line_at s p) (blocks_of itself k (lines_at s ps))))
-      go true c e f g = ap (λ (bs : List (List (List ℕ))). [] ∷ bs) e
-      go false true e f g = each_repeated (turns_of k (line_at s p)) (blocks_of (line_at s) (k - 1) ps) ∙ ap (repeated (turns_of k (line_at s p))) f
-      go false false e f g = each_line p (blocks_of (line_at s) k ps) ∙ ap (line_before (line_at s p)) g
+          → each (if b then [] ∷ blocks_of (line_at s) (k + 1) ps else option_map_or (λ n. repeated n (blocks_of (line_at s) (k - 1) ps)) o (line_before p (blocks_of (line_at s) k ps)))
+          ≡ (if b then [] ∷ blocks_of itself (k + 1) (lines_at s ps) else option_map_or (λ n. repeated n (blocks_of itself (k - 1) (lines_at s ps))) o (line_before (line_at s p) (blocks_of itself k (lines_at s ps))))
+      go true o e f g = ap (λ (bs : List (List (List ℕ))). [] ∷ bs) e
+      go false (Some n) e f g = each_repeated n (blocks_of (line_at s) (k - 1) ps) ∙ ap (repeated n) f
+      go false None e f g = each_line p (blocks_of (line_at s) k ps) ∙ ap (line_before (line_at s p)) g
 
   pub written_at : (ps : List ℕ) → lines_at s (written_out (line_at s) ps) ≡ written_out itself (lines_at s ps)
   unfolding written_out

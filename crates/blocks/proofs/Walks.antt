@@ -10,6 +10,7 @@ use borrow.Author.Tests.{lt-ltb, ltb-true, ltb-false}
 use lib.Dec.{ltb}
 use lib.ListN.{length, take, drop, get_or, drop_of_length-le}
 use Rattle.clocks.proofs.Tests.{both}
+use Rattle.std.specs.Prelude.{None, Some}
 use Rattle.lines.specs.Written.{Written}
 use Rattle.marks.specs.Marks.{closes, turns_of}
 use Rattle.marks.proofs.Matches.{from_here}
@@ -161,7 +162,7 @@ module _
 -- one that opens nothing
 pub through_plain :
     (line : ℕ → List ℕ) (table : List ℕ) (at k : ℕ) (w : Window) (r : Walked) (out : List ℕ) → at < length table
-    → 65536 ≤ turns_of k (line (get_or table at 0)) → r.at ≡ at + 1 → window r.skip r.used out ≡ notes w (get_or table at 0 ∷ [])
+    → turns_of k (line (get_or table at 0)) ≡ None → r.at ≡ at + 1 → window r.skip r.used out ≡ notes w (get_or table at 0 ∷ [])
     → ThroughLine line table at k w r out
 through_plain line table at k w r out h g i e =
     let p = plain_out line k (get_or table at 0) (drop (at + 1) table) g in
@@ -246,11 +247,11 @@ module _
     more_noted = block_came.more
 
     pub onward_may :
-        (b.used - uses ≤ b.used) × (b.used ≤ length out₁) × (0 < b.used - uses → b.skip ≡ 0)
+        (b.skip ≤ skips) × (uses ≤ b.used) × (b.used ≤ length out₁) × (uses < b.used → b.skip ≡ 0)
     onward_may =
         let s = block_came.size in
         let i = block_came.within (omega arith) in
-        (omega arith, omega arith, λ q. block_came.order (omega arith))
+        (fewer_left, more_noted, omega arith, λ q. block_came.order q)
 
     -- and what comes of its repetitions
     module _
@@ -290,13 +291,9 @@ module _
 
 -- ---- what a line that opens is through with
 
--- a count below 65,536
-pub few : (n m : ℕ) → n ≡ m → n ≤ 65535 → m < 65536
-few n m e h = omega arith
-
 -- no turn at all, and all of them
-pub no_turn : (w : Window) (n : ℕ) (o : List ℕ) → n < 1 → w ≡ notes w (times n o)
-no_turn w n o h = let e : n ≡ 0 = omega arith in sym (ap (λ (m : ℕ). notes w (times m o)) e ∙ never w o)
+pub no_turn : (w : Window) (n : ℕ) (o : List ℕ) → n ≡ 0 → w ≡ notes w (times n o)
+no_turn w n o e = sym (ap (λ (m : ℕ). notes w (times m o)) e ∙ never w o)
 
 module _
     {line : ℕ → List ℕ} {table : List ℕ} {from low skip used : ℕ} {out₀ out : List ℕ} {n turned after skips uses : ℕ}
@@ -332,7 +329,7 @@ module _
 
 module _
     (line : ℕ → List ℕ) (table : List ℕ) (at k : ℕ) (w : Window) (r : Walked) (out : List ℕ) (n : ℕ)
-    (h : turns_of k (line (get_or table at 0)) < 65536) (e : n ≡ turns_of k (line (get_or table at 0)))
+    (h : turns_of k (line (get_or table at 0)) ≡ Some n)
   where
     pub through_turns :
         at + 1 ≤ r.at → r.at ≤ length table
@@ -340,13 +337,13 @@ module _
         → (r.used < length out → blocks_of line (k - 1 + 1) (drop r.at table) ≡ others (blocks_of line (k - 1) (drop (at + 1) table)))
         → ThroughLine line table at k w r out
     through_turns a b c d =
-        let p = opens_out line k (get_or table at 0) (drop (at + 1) table) h in
-        let l = opens_level k (line (get_or table at 0)) h in
+        let p = opens_out line k (get_or table at 0) (drop (at + 1) table) n h in
+        let l = opens_level k (line (get_or table at 0)) n h in
         let z : k ≡ k - 1 + 1 = omega arith in
         record {
           begun = a;
           within = b;
-          noted = c ∙ ap (λ (m : ℕ). notes w (times m (first (blocks_of line (k - 1) (drop (at + 1) table))))) e ∙ ap (notes w) (sym p.0);
+          noted = c ∙ ap (notes w) (sym p.0);
           next = λ g. ap (λ (j : ℕ). blocks_of line j (drop r.at table)) z ∙ d g ∙ sym p.1;
         }
 

@@ -35,6 +35,9 @@ module _ (k u : ℕ) (l : List ℕ) (p : ℕ) (h : k ≤ 0) where
   pub too_late : length l ≤ u → note_of (window k u l) p ≡ window k u l
   too_late g = let z : k ≡ 0 = omega arith in ap (λ (n : ℕ). note_of (window n u l) p) z ∙ late u l p g ∙ ap (λ (n : ℕ). window n u l) (sym z)
 
+-- what one more does
+pub ruleset one_more = (passed, put_last, too_late)
+
 -- ---- some more
 
 pub none : (w : Window) → notes w [] ≡ w

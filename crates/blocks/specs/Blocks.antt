@@ -1,6 +1,7 @@
 -- What a session with repeats comes to. Its lines may be given as texts, or as the places where they stand: `line` says which text
 -- each is.
-use Rattle.std.specs.Prelude.{List, [], ◌∷◌, ◌++◌, ℕ, zero, suc, ◌+◌, ◌-◌, ltb, if◌then◌else◌}
+use Rattle.std.specs.Prelude.{List, [], ◌∷◌, ◌++◌, ℕ, zero, suc, ◌+◌, ◌-◌, if◌then◌else◌}
+use Rattle.std.specs.Option.{option_map_or}
 use Rattle.marks.specs.Marks.{closes, turns_of}
 
 -- a line that is given as its text
@@ -35,8 +36,7 @@ unfoldable pub blocks_of : {A : Type 0} → (A → List ℕ) → ℕ → List A 
 blocks_of line k [] = []
 blocks_of line k (x ∷ xs) =
     if closes (line x) then [] ∷ blocks_of line (k + 1) xs else
-    (if ltb (turns_of k (line x)) 65536 then repeated (turns_of k (line x)) (blocks_of line (k - 1) xs) else
-    line_before x (blocks_of line k xs))
+    option_map_or (λ n. repeated n (blocks_of line (k - 1) xs)) (turns_of k (line x)) (line_before x (blocks_of line k xs))
 
 -- all that a session writes: it begins with 4 levels
 unfoldable pub written_out : {A : Type 0} → (A → List ℕ) → List A → List A
@@ -44,8 +44,7 @@ written_out line xs = first (blocks_of line 4 xs)
 
 -- of a line before others, which closes nothing: what it writes itself, and what comes behind that
 unfoldable pub line_out : {A : Type 0} → (A → List ℕ) → ℕ → A → List A → List A
-line_out line k x xs =
-    if ltb (turns_of k (line x)) 65536 then times (turns_of k (line x)) (first (blocks_of line (k - 1) xs)) else x ∷ []
+line_out line k x xs = option_map_or (λ n. times n (first (blocks_of line (k - 1) xs))) (turns_of k (line x)) (x ∷ [])
 
 unfoldable pub behind : {A : Type 0} → (A → List ℕ) → ℕ → A → List A → List (List A)
-behind line k x xs = if ltb (turns_of k (line x)) 65536 then others (blocks_of line (k - 1) xs) else blocks_of line k xs
+behind line k x xs = option_map_or (λ n. others (blocks_of line (k - 1) xs)) (turns_of k (line x)) (blocks_of line k xs)

@@ -1,5 +1,5 @@
 -- What holds of sessions with repeats. proofs/Demands.antt has a proof of each statement, under its name in small letters.
-use Rattle.std.specs.Prelude.{◌≡◌, true, false, List, [], ◌∷◌, ◌++◌, ◌↔◌, ℕ, ◌+◌, ◌≤◌, max, length}
+use Rattle.std.specs.Prelude.{◌≡◌, true, false, List, [], ◌∷◌, ◌++◌, ◌↔◌, ℕ, ◌+◌, ◌≤◌, max, length, unwrap_or, Ok}
 use Rattle.lines.specs.Places.{line_at, lines_at}
 use Rattle.marks.specs.Marks.{closes, count_of, opens}
 use Rattle.marks.specs.Matches.{match_of}
@@ -24,7 +24,7 @@ typed (block o b c t) = o ∷ (typed b ++ c ∷ typed t)
 unfoldable pub run : Script → List (List ℕ)
 run end = []
 run (line l t) = l ∷ run t
-run (block o b c t) = times (count_of o) (run b) ++ run t
+run (block o b c t) = times (unwrap_or (count_of o) 0) (run b) ++ run t
 
 -- how many blocks stand in one another
 unfoldable pub depth : Script → ℕ
@@ -38,12 +38,12 @@ Formed end = Unit {0}
 Formed (line l t) = (closes l ≡ false) × (opens l ≡ false) × Formed t
 Formed (block o b c t) = (closes o ≡ false) × (opens o ≡ true) × Formed b × (closes c ≡ true) × Formed t
 
--- a script up to 4 deep is written out as it is meant, and neither 27 nor 28 is given to it
+-- a script up to 4 deep is written out as it is meant, and it is neither too deep nor unmatched
 abbrev pub WrittenAsMeant : Type 0
 WrittenAsMeant = (t : Script) → Formed t → depth t ≤ 4 → written_out itself (typed t) ≡ run t
 
 abbrev pub MatchesAsMeant : Type 0
-MatchesAsMeant = (t : Script) → Formed t → depth t ≤ 4 → match_of itself (typed t) ≡ 0
+MatchesAsMeant = (t : Script) → Formed t → depth t ≤ 4 → match_of itself (typed t) ≡ Ok tt
 
 -- lines of which none opens or closes
 unfoldable pub Plain : List (List ℕ) → Type 0
@@ -54,13 +54,13 @@ Plain (l ∷ ls) = (closes l ≡ false) × (opens l ≡ false) × Plain ls
 abbrev pub Meant : List (List ℕ) → Type 0
 Meant ls = (t : Script) × Formed t × (depth t ≤ 4) × (typed t ≡ ls)
 
--- neither 27 nor 28 is given exactly to the lines that mean something
+-- the lines that are neither too deep nor unmatched are exactly those that mean something
 abbrev pub MatchedExact : Type 0
-MatchedExact = (ls : List (List ℕ)) → (match_of itself ls ≡ 0) ↔ Meant ls
+MatchedExact = (ls : List (List ℕ)) → (match_of itself ls ≡ Ok tt) ↔ Meant ls
 
 -- and none of the lines that open or close is written
 abbrev pub MarksGone : Type 0
-MarksGone = (ls : List (List ℕ)) → match_of itself ls ≡ 0 → Plain (written_out itself ls)
+MarksGone = (ls : List (List ℕ)) → match_of itself ls ≡ Ok tt → Plain (written_out itself ls)
 
 -- ---- any session
 
@@ -68,7 +68,7 @@ MarksGone = (ls : List (List ℕ)) → match_of itself ls ≡ 0 → Plain (writt
 abbrev pub AcceptedExact : Type 0
 AcceptedExact =
     (n : ℕ) (ls : List (List ℕ))
-    → (refusal_of itself n ls ≡ 0) ↔ ((n ≤ 32768) × (match_of itself ls ≡ 0) × (length (written_out itself ls) ≤ 1000000))
+    → (refusal_of itself n ls ≡ Ok tt) ↔ ((n ≤ 32768) × (match_of itself ls ≡ Ok tt) × (length (written_out itself ls) ≤ 1000000))
 
 -- lines given as places are written out, and refused, as their texts are
 abbrev pub ByPlaces : Type 0
@@ -79,4 +79,4 @@ ByPlaces =
 
 -- lines of which none opens or closes are their own writing-out, and match
 abbrev pub PlainStays : Type 0
-PlainStays = (ls : List (List ℕ)) → Plain ls → (written_out itself ls ≡ ls) × (match_of itself ls ≡ 0)
+PlainStays = (ls : List (List ℕ)) → Plain ls → (written_out itself ls ≡ ls) × (match_of itself ls ≡ Ok tt)

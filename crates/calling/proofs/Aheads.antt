@@ -9,6 +9,7 @@ use Rattle.replies.specs.declared.Reply.{Reply}
 use Rattle.replies.specs.declared.Reply.TheVariants.{Number}
 use Rattle.chips.specs.Chips.{Chip, answer, Clocked, Lined, line, Foretold}
 use Rattle.chips.proofs.Chips.{Lawful, refuses_ill, reached_well}
+use Rattle.calls.specs.declared.Refusal.TheVariants.{IllFormed}
 use Rattle.calls.specs.declared.Call22.TheVariants as Via
 use Rattle.calls.specs.declared.Call32.TheVariants as Riot
 use Rattle.via6522.specs.Chip as Chip22
@@ -33,7 +34,7 @@ module _ (C : Chip) (S : Lawful C) (T : Clocked C) (L : Lined C) (shown : C.Answ
 
   -- the reply to a forecast, by the number that was promised and by the one that looking ahead finds
   abbrev ahead : ℕ → C.Answer → Reply
-  ahead n a = replied (C.number a) (Number (shown a) n)
+  ahead n a = replied (C.refusal a) (Number (shown a) n)
 
   ahead_is : ahead (number_of f) r ≡ ahead (number_of (first_from (suc m) 0 (λ k. line C T L k v))) (answer C L.forecast v)
   ahead_is = go (C.well v) refl
@@ -41,8 +42,8 @@ module _ (C : Chip) (S : Lawful C) (T : Clocked C) (L : Lined C) (shown : C.Answ
       found : ℕ
       found = number_of (first_from (suc m) 0 (λ k. line C T L k v))
 
-      refused : (n k : ℕ) → ahead n (C.refused 1 v) ≡ ahead k (C.refused 1 v)
-      refused n k = rw (S.number_refused 1 v)
+      refused : (n k : ℕ) → ahead n (C.refused IllFormed v) ≡ ahead k (C.refused IllFormed v)
+      refused n k = rw (S.refusal_refused IllFormed v)
 
       go : (b : Bool) → C.well v ≡ b → ahead (number_of f) r ≡ ahead found (answer C L.forecast v)
       go true w = ap₂ ahead (sym (looked w)) t.answered

@@ -10,4 +10,4 @@ forecast_told = Aheads.forecast_told
 pub after_one : Demands.AfterOne
 after_one before x y io c r s a b =
     let e = a.riot ∙ sym b.riot in
-    (ap (λ (v : Riot). v.ram) e, λ i. record { io = (e i).io; reply = (a.reply ∙ sym b.reply) i })
+    (ap (λ (v : Riot). v.ram) e, λ i. record { chip = (e i).io; reply = (a.reply ∙ sym b.reply) i })

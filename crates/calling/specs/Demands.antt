@@ -12,8 +12,8 @@ use Rattle.riot6532.specs.declared.Io.{Io}
 use Rattle.riot6532.specs.declared.Riot.{Riot}
 use Rattle.riot6532.specs.declared.Answer as Answer32
 use Rattle.calling.specs.Told.{forecast22, forecast32}
-use Rattle.calling.specs.After.{After}
-use Rattle.calling.specs.declared.After32.{After32}
+use Rattle.calling.specs.After.{After32}
+use Rattle.calling.specs.declared.After.{After}
 
 -- a session's forecast is the number of the chip's, which is the least number of clocks, or never
 abbrev pub ForecastTold : Type 0
@@ -25,4 +25,4 @@ ForecastTold =
 
 -- any two results that the promise of `on32` allows coincide, and so do the RAMs beside them
 abbrev pub AfterOne : Type 0
-AfterOne = (before x y : List ℕ) (io : Io) (c : Call32) (r s : After32) → After before x io c r → After before y io c s → (x ≡ y) × (r ≡ s)
+AfterOne = (before x y : List ℕ) (io : Io) (c : Call32) (r s : After Io) → After32 before x io c r → After32 before y io c s → (x ≡ y) × (r ≡ s)

@@ -1,6 +1,7 @@
 -- What is told of a chip's answer: the reply to a call.
-use Rattle.std.specs.Prelude.{Bool, ℕ, ◌+◌, eqb, if◌then◌else◌}
+use Rattle.std.specs.Prelude.{Bool, ℕ, ◌+◌, Option, None, Some, if◌then◌else◌}
 use Rattle.clocks.specs.Forecasts.{number_of, first_from}
+use Rattle.calls.specs.declared.Refusal.{Refusal}
 use Rattle.calls.specs.declared.Call22.{Call22}
 use Rattle.calls.specs.declared.Call22.TheVariants as Via
 use Rattle.calls.specs.declared.Call25.{Call25}
@@ -38,9 +39,10 @@ told (a_byte_and_mask m) l d n = Read l d m
 told a_forecast l d n = Number l n
 told (turns t) l d n = Number l t
 
--- a refused call is answered by its number alone
-abbrev pub replied : ℕ → Reply → Reply
-replied n r = if eqb n 0 then r else Refused n
+-- a refused call is answered by its refusal alone
+abbrev pub replied : Option Refusal → Reply → Reply
+replied None r = r
+replied (Some k) r = Refused k
 
 -- the line byte: the interrupt line of the 6522, the 6525 and the 6532, and four lines of the 6545 in bits 0 to 3
 abbrev pub line_of : Bool → ℕ

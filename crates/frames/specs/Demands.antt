@@ -1,5 +1,5 @@
 -- What the demands ask of frames. proofs/Demands.antt has a proof of each statement, under its name in small letters.
-use Rattle.std.specs.Prelude.{◌≡◌, ℕ, ◌/◌, ◌%◌, List, [], ◌∷◌, ◌++◌, if◌then◌else◌}
+use Rattle.std.specs.Prelude.{◌≡◌, ℕ, ◌/◌, ◌%◌, List, [], ◌∷◌, ◌++◌, Option, None, Some, if◌then◌else◌}
 use Rattle.calls.specs.Calls.{Typed22, Typed25, Typed32, Typed45}
 use Rattle.calls.specs.declared.Call22.{Call22}
 use Rattle.calls.specs.declared.Call22.TheVariants as Via
@@ -12,15 +12,15 @@ use Rattle.calls.specs.declared.Call45.TheVariants as Crtc
 use Rattle.replies.specs.Hex.{hex_of}
 use Rattle.frames.specs.Frames.{frame_of}
 use Rattle.frames.specs.declared.Frame.{Frame}
-use Rattle.frames.specs.declared.Frame.TheVariants.{Unknown, To22, To25, To32, To45}
+use Rattle.frames.specs.declared.Frame.TheVariants.{To22, To25, To32, To45}
 
--- a frame whose operands are values of their types
-abbrev pub Typed : Frame → Type 0
-Typed Unknown = Unit {0}
-Typed (To22 c) = Typed22 c
-Typed (To25 c) = Typed25 c
-Typed (To32 c) = Typed32 c
-Typed (To45 c) = Typed45 c
+-- a frame, if there is one, whose operands are values of their types
+abbrev pub Typed : Option Frame → Type 0
+Typed None = Unit {0}
+Typed (Some (To22 c)) = Typed22 c
+Typed (Some (To25 c)) = Typed25 c
+Typed (Some (To32 c)) = Typed32 c
+Typed (Some (To45 c)) = Typed45 c
 
 -- whatever a line holds, the operands of its call are in their ranges
 abbrev pub FramesTyped : Type 0
@@ -60,18 +60,19 @@ bytes45 (Crtc.Read a) = 0x45 ∷ 0x03 ∷ a ∷ []
 bytes45 (Crtc.Pins pen) = 0x45 ∷ 0x04 ∷ pen ∷ []
 bytes45 (Crtc.Run n counted) = 0x45 ∷ (if counted then 0x07 else 0x05) ∷ count n
 
-abbrev pub frame_bytes : Frame → List ℕ
-frame_bytes Unknown = []
-frame_bytes (To22 c) = bytes22 c
-frame_bytes (To25 c) = bytes25 c
-frame_bytes (To32 c) = bytes32 c
-frame_bytes (To45 c) = bytes45 c
+-- none for no frame
+abbrev pub frame_bytes : Option Frame → List ℕ
+frame_bytes None = []
+frame_bytes (Some (To22 c)) = bytes22 c
+frame_bytes (Some (To25 c)) = bytes25 c
+frame_bytes (Some (To32 c)) = bytes32 c
+frame_bytes (Some (To45 c)) = bytes45 c
 
 -- the line of some bytes, in the digits of the replies
 abbrev pub line_of : List ℕ → List ℕ
 line_of [] = []
 line_of (b ∷ s) = hex_of b ++ line_of s
 
--- every call can be asked for: the line of its bytes is that call
+-- every call can be asked for: the line of its bytes is that call; an empty line is none
 abbrev pub FramesSaid : Type 0
-FramesSaid = (f : Frame) → Typed f → frame_of (line_of (frame_bytes f)) ≡ f
+FramesSaid = (f : Option Frame) → Typed f → frame_of (line_of (frame_bytes f)) ≡ f

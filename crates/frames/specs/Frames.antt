@@ -1,22 +1,24 @@
 -- The frame that a line is.
-use Rattle.std.specs.Prelude.{ℕ, ◌+◌, ◌*◌, Bool, true, false, ◌&&◌, List, [], ◌∷◌, ◌++◌, length, ◌==◌, nat_le, nat_lt, slice_index, if◌then◌else◌}
+use Rattle.std.specs.Prelude.{ℕ, ◌+◌, ◌*◌, true, false, ◌&&◌, List, [], ◌∷◌, ◌++◌, length, ◌==◌, nat_le, slice_index, Option, None, Some, if◌then◌else◌}
 use Rattle.calls.specs.declared.Call22.TheVariants as Via
 use Rattle.calls.specs.declared.Call25.TheVariants as Tpi
 use Rattle.calls.specs.declared.Call32.TheVariants as Riot
 use Rattle.calls.specs.declared.Call45.TheVariants as Crtc
-use Rattle.frames.specs.Hex.{pair_of}
+use Rattle.digits.specs.Hex.{pair_of}
 use Rattle.frames.specs.declared.Frame.{Frame}
-use Rattle.frames.specs.declared.Frame.TheVariants.{Unknown, To22, To25, To32, To45}
+use Rattle.frames.specs.declared.Frame.TheVariants.{To22, To25, To32, To45}
 
--- a line read two characters at a time; a character left over is no byte
-abbrev pub bytes_of : List ℕ → List ℕ
-bytes_of [] = []
-bytes_of (h ∷ []) = 65536 ∷ []
-bytes_of (h ∷ l ∷ s) = pair_of h l ∷ bytes_of s
+-- a byte, if it is one, before bytes, if they are
+abbrev pub before : Option ℕ → Option (List ℕ) → Option (List ℕ)
+before None s = None
+before (Some b) None = None
+before (Some b) (Some s) = Some (b ∷ s)
 
-abbrev pub are_bytes : List ℕ → Bool
-are_bytes [] = true
-are_bytes (b ∷ s) = nat_lt b 256 && are_bytes s
+-- a line read two characters at a time; none where a pair is no byte or a character is left over
+abbrev pub bytes_of : List ℕ → Option (List ℕ)
+bytes_of [] = Some []
+bytes_of (h ∷ []) = None
+bytes_of (h ∷ l ∷ s) = before (pair_of h l) (bytes_of s)
 
 -- operand k, counted from 0, and the four-byte count of clocks, the highest byte first
 abbrev pub byte : ℕ → List ℕ → ℕ
@@ -78,26 +80,31 @@ abbrev pub table : List Row
 table = rows22 ++ (rows25 ++ (rows32 ++ rows45))
 
 -- the frame of a word and some operands: that of the row with this word, if it has as many operands
-abbrev pub found : List Row → ℕ → List ℕ → Frame
-found [] w s = Unknown
-found (r ∷ t) w s = if w == r.word && length s == r.operands then r.frame s else found t w s
+abbrev pub found : List Row → ℕ → List ℕ → Option Frame
+found [] w s = None
+found (r ∷ t) w s = if w == r.word && length s == r.operands then Some (r.frame s) else found t w s
 
-unfoldable pub called : ℕ → List ℕ → Frame
+unfoldable pub called : ℕ → List ℕ → Option Frame
 called w s = found table w s
 
--- the same of operands that may be no bytes: what the functions by number of operands promise
-unfoldable pub asked : ℕ → List ℕ → Frame
-asked w s = if are_bytes s then called w s else Unknown
+-- the same of operands that may be no bytes, and of their characters
+abbrev pub called_with : ℕ → Option (List ℕ) → Option Frame
+called_with w None = None
+called_with w (Some s) = called w s
+
+unfoldable pub asked : ℕ → List ℕ → Option Frame
+asked w l = called_with w (bytes_of l)
 
 -- the chip's byte, the operation's, and the operands
-abbrev pub of_bytes : List ℕ → Frame
-of_bytes [] = Unknown
-of_bytes (chip ∷ []) = Unknown
+abbrev pub of_bytes : List ℕ → Option Frame
+of_bytes [] = None
+of_bytes (chip ∷ []) = None
 of_bytes (chip ∷ op ∷ s) = called (chip * 256 + op) s
 
-unfoldable pub checked : List ℕ → Frame
-checked s = if are_bytes s then of_bytes s else Unknown
+unfoldable pub checked : Option (List ℕ) → Option Frame
+checked None = None
+checked (Some s) = of_bytes s
 
 -- a line of more than 32 characters is no frame, whatever is in it
-unfoldable pub frame_of : List ℕ → Frame
-frame_of l = if nat_le (length l) 32 then checked (bytes_of l) else Unknown
+unfoldable pub frame_of : List ℕ → Option Frame
+frame_of l = if nat_le (length l) 32 then checked (bytes_of l) else None

@@ -1,11 +1,11 @@
 -- The loop that writes the places of a text's lines.
 use mathlib.Core.Path.{◌≡◌, refl, ap, sym, ◌∙◌}
-use mathlib.Core.List.{List, ◌∷◌, ◌++◌, append-nil}
+use mathlib.Core.List.{List, ◌∷◌, ◌++◌}
 use Prim.Native.Nat.{ℕ, ◌+◌, ◌-◌, ◌<◌, ◌≤◌}
 use native.Mathlib.Numerals.{add-one}
 use native.Mathlib.Omega.{arith}
-use lib.ListN.{length, take, drop, set, length-drop, length-set, drop_of_length-le}
-use lib.Seq.{take_all, take-nil, take_at, take-suc-set, drop-set-lt, append_snoc, length-take-le}
+use lib.ListN.{length, take, drop, set, length-drop, length-set}
+use lib.Seq.{take-nil, take-suc-set, drop-set-lt, append_snoc, length-take-le}
 use borrow.Author.Tests.{le-leb, lt-leb}
 use Rattle.clocks.proofs.Lists.{drop_later}
 use Rattle.lines.specs.Lines.{lines_of, end_from}
@@ -54,16 +54,3 @@ module _ {s out₀ out : List ℕ} {at used : ℕ} (g : Cutting s out₀ out at 
             g.whole ∙ ap (λ (r : List ℕ). take used out ++ r) places ∙ sym (append_snoc (take used out) p more)
             ∙ rw (add-one used, take-suc-set out used p k);
       }
-
-  ends : take used out ≡ take (length out₀) (cut_of s) → Written out₀ out used (take (length out₀) (cut_of s))
-  ends e = record { size = sym (ap length (sym e) ∙ length-take-le used out g.room); text = e; rest = g.beyond }
-
-  -- no room is left, or no line
-  pub cutting_full : length out ≤ used → Written out₀ out used (take (length out₀) (cut_of s))
-  cutting_full h =
-      ends (sym (ap (take (length out₀)) g.whole ∙ take_at (take used out) _ (length out₀) (length-take-le used out g.room ∙ omega (arith, g.room, g.sized))))
-
-  pub cutting_end : length s ≤ at → Written out₀ out used (take (length out₀) (cut_of s))
-  cutting_end h =
-      let all : cut_of s ≡ take used out = g.whole ∙ rw (drop_of_length-le s h) (append-nil (take used out)) in
-      ends (sym (ap (take (length out₀)) all ∙ take_all (length out₀) (take used out) (rw (length-take-le used out g.room) (omega (arith, g.room, g.sized)))))

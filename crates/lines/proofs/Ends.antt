@@ -3,15 +3,17 @@ use Rattle.std.specs.Prelude.{if◌then◌else◌}
 use mathlib.Core.Path.{◌≡◌, refl, ap, sym, ◌∙◌}
 use mathlib.Core.Bool.{Bool, true, false}
 use mathlib.Core.List.{List, [], ◌∷◌, ◌++◌}
-use Prim.Native.Nat.{ℕ, suc, ◌+◌, ◌-◌, ◌<◌, ◌≤◌}
-use native.Mathlib.Nat.{add-zero}
-use native.Mathlib.Numerals.{add-one}
+use Prim.Native.Nat.{ℕ, suc, ◌+◌, ◌-◌, ◌<◌, ◌≤◌, min}
+use mathlib.Core.Bool.{not}
+use Rattle.std.specs.List.{position, position_or_len}
+use Rattle.std.specs.Prelude.{Option, None, Some}
+use borrow.Author.Tests.{lt-ltb, le-ltb}
 use native.Mathlib.Decide.{dec_le, dec_lt}
 use native.Mathlib.Omega.{arith}
 use lib.Dec.{eqb}
-use lib.ListN.{length, get_or, take, drop, length-drop, drop_of_length-le}
-use lib.Seq.{take_all, drop-cons, drop-drop}
-use borrow.Author.Tests.{eq-eqb, ne_eqb, eqb-true, le-leb, lt-leb}
+use lib.ListN.{length, take, drop, length-drop, drop_of_length-le}
+use lib.Seq.{take_all, drop-drop}
+use borrow.Author.Tests.{eqb-true, le-leb, lt-leb}
 use Rattle.lines.specs.Lines.{ended, open_line, lines_of, Quiet, end_of, end_from}
 use Rattle.lines.proofs.Lines.{quiet_ended, quiet_open, last_some, line_ended_lem, line_open}
 
@@ -76,17 +78,6 @@ module _ (s : List ℕ) (from : ℕ) where
   unfolding end_from
   beyond h = rw (lt-leb from (length s) h)
 
-  -- a byte that is an LF, one that is none, and no byte
-  pub end_here : from < length s → get_or s from 0 ≡ 10 → end_from s from ≡ from
-  end_here h e = inside (omega arith) ∙ rw (drop-cons s from 0 h, eq-eqb (get_or s from 0) 10 e, add-zero)
-
-  pub end_past : length s ≤ from → end_from s from ≡ length s
-  end_past h = go (dec_le from (length s))
-    where
-      go : Dec (from ≤ length s) → end_from s from ≡ length s
-      go (yes k) = inside k ∙ rw (drop_of_length-le s h, add-zero) (omega arith)
-      go (no k) = beyond (omega arith)
-
   pub from_within : (end_from s from ≤ length s) × (from ≤ length s → from ≤ end_from s from)
   from_within = (go (dec_le from (length s)), λ h. omega (arith, inside h))
     where
@@ -128,9 +119,38 @@ module _ (s : List ℕ) (from : ℕ) where
           rw (take_all (end_of (drop from s)) (drop from s) all) at (end_quiet (drop from s))
       go (no k) = rw (drop_of_length-le s {i = from} (omega arith)) tt
 
-pub end_next : (s : List ℕ) (i : ℕ) → i < length s → (get_or s i 0 ≡ 10 → ⊥) → end_from s i ≡ end_from s (i + 1)
-end_next s i h n =
-    rw add-one
-    (inside s i (omega arith)
-    ∙ rw (drop-cons s i 0 h, ne_eqb (get_or s i 0) 10 n) (omega arith)
-    ∙ sym (inside s (suc i) (omega arith)))
+-- by the library's word for it
+end_position : (s : List ℕ) → end_of s ≡ position_or_len (λ b. eqb b 10) s
+end_position [] = refl
+end_position (x ∷ s) = go (eqb x 10) (end_position s)
+  where
+    go : (t : Bool) → end_of s ≡ position_or_len (λ b. eqb b 10) s → (if t then 0 else suc (end_of s)) ≡ (if not t then 1 + position_or_len (λ b. eqb b 10) s else 0)
+    go true e = refl
+    go false e = omega (arith, e)
+
+-- what a search for an LF says of the end, which began at `from` or, where that is beyond the text, at its end
+abbrev pub end_by : ℕ → ℕ → Option ℕ → ℕ
+end_by from size (Some n) = from + n
+end_by from size None = size
+
+pub end_from_is :
+    (s : List ℕ) (from m : ℕ) → m ≡ min from (length s) → (o : Option ℕ) → o ≡ position (λ b. eqb b 10) (take (length s - m) (drop m s))
+    → end_by m (length s) o ≡ end_from s from
+end_from_is s from m e o f = rw f (rw (take_all (length s - m) (drop m s) (simp length-drop (omega arith))) (go (dec_le from (length s)) (dec_lt (end_of (drop m s)) (length (drop m s)))))
+  where
+    by_end : end_of (drop m s) ≡ position_or_len (λ b. eqb b 10) (drop m s)
+    by_end = end_position (drop m s)
+
+    more : (end_of (drop m s) < length (drop m s) → ⊥) → length (drop m s) ≤ end_of (drop m s)
+    more k = omega arith
+
+    go :
+        Dec (from ≤ length s) → Dec (end_of (drop m s) < length (drop m s))
+        → end_by m (length s) (position (λ b. eqb b 10) (drop m s)) ≡ end_from s from
+    go (yes h) (yes k) = let q : m ≡ from = omega arith in
+        rw (← by_end, lt-ltb _ _ k) (rw q (sym (inside s from h)))
+    go (yes h) (no k) = let q : m ≡ from = omega arith in
+        rw (← by_end, le-ltb (end_of (drop m s)) (length (drop m s)) (omega arith)) (let w : length (drop from s) ≤ end_of (drop from s) = rw q at (more k) in omega (arith, inside s from h, end_within (drop from s), length-drop from s))
+    go (no h) (yes k) = absurd (omega (arith, length-drop m s))
+    go (no h) (no k) =
+        rw (← by_end, le-ltb (end_of (drop m s)) (length (drop m s)) (omega arith)) (sym (beyond s from (omega arith)))

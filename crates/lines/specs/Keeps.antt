@@ -1,11 +1,6 @@
 -- What is kept of an open line, at the front of the buffer that it came in.
 use Rattle.std.specs.Prelude.{ℕ, ◌-◌, ◌<◌, ◌≤◌, min, ◌≡◌, ◌⊎◌, List, length, take, drop}
 
--- a buffer whose first m bytes are those that were at `from` and after it, the rest untouched
-pub record Moved (before now : List ℕ) (from m : ℕ) : Type 0 where
-  pub front : take m now ≡ take m (drop from before)
-  pub rest : drop m now ≡ drop m before
-
 -- what `keep` leaves of a buffer whose bytes from `used` up to n are an open line: at most so many of them, at its front. Where
 -- these are no places of the buffer, it is untouched.
 pub record Keeps (before now : List ℕ) (used n most kept : ℕ) : Type 0 where

@@ -1,4 +1,5 @@
 -- Tests that compute, and what follows from each that is passed.
+use Rattle.std.specs.Prelude.{Option, None, Some, is_none}
 use mathlib.Core.Path.{◌≡◌, refl, sym, ap, ◌∙◌}
 use mathlib.Core.Bool.{Bool, true, false, ◌&&◌, false≢true}
 use mathlib.Core.List.{List, [], ◌∷◌}
@@ -17,11 +18,16 @@ use Rattle.chips.specs.Chips.{Chip, answer, next}
 use Rattle.marked.specs.Cases.{Leads}
 use Rattle.marked.specs.Demands.{Every}
 
+-- what is no value is None
+pub none_is : {A : Type 0} (o : Option A) → is_none o ≡ true → o ≡ None
+none_is None e = refl
+none_is (Some x) e = absurd (false≢true e)
+
 -- calls that lead, none refused, to a record that passes p; which of them are typed is tested too
 module _ (C : Chip) (typed : C.Call → Bool) (is-typed : (c : C.Call) → typed c ≡ true → C.Typed c) (p : C.State → Bool) where
   unfoldable pub leads : List C.Call → C.State → Bool
   leads [] v = p v
-  leads (c ∷ cs) v = typed c && eqb (C.number (answer C c v)) 0 && leads cs (next C c v)
+  leads (c ∷ cs) v = typed c && is_none (C.refusal (answer C c v)) && leads cs (next C c v)
 
   pub leads_holds :
       (P : C.State → Type 0) → ((v : C.State) → p v ≡ true → P v)
@@ -29,9 +35,9 @@ module _ (C : Chip) (typed : C.Call → Bool) (is-typed : (c : C.Call) → typed
   unfolding leads Leads
   leads_holds P h [] v e = h v e
   leads_holds P h (c ∷ cs) v e =
-      let b = both (typed c && eqb (C.number (answer C c v)) 0) (leads cs (next C c v)) e in
-      let a = both (typed c) (eqb (C.number (answer C c v)) 0) b.0 in
-      (is-typed c a.0, eqb-true (C.number (answer C c v)) 0 a.1, leads_holds P h cs (next C c v) b.1)
+      let b = both (typed c && is_none (C.refusal (answer C c v))) (leads cs (next C c v)) e in
+      let a = both (typed c) (is_none (C.refusal (answer C c v))) b.0 in
+      (is-typed c a.0, none_is _ a.1, leads_holds P h cs (next C c v) b.1)
 
 -- every entry of a list passes p
 module _ {A : Type 0} (p : A → Bool) where

@@ -1,5 +1,5 @@
 -- What a case is: the calls that lead to it from power-up, and what must hold there.
-use Rattle.std.specs.Prelude.{◌≡◌, Bool, true, false, List, [], ◌∷◌, ℕ, ◌-◌, ◌*◌, ◌/◌, ◌%◌, ◌≤◌}
+use Rattle.std.specs.Prelude.{◌≡◌, Bool, true, false, List, [], ◌∷◌, ℕ, ◌-◌, ◌*◌, ◌/◌, ◌%◌, ◌≤◌, None}
 use Rattle.clocks.specs.Clocks.{after}
 use Rattle.clocks.specs.Bits.{bit}
 use Rattle.clocks.specs.Forecasts.{comes}
@@ -30,7 +30,7 @@ use Rattle.crtc6545.specs.declared.Crtc.{Crtc}
 -- one leaves
 unfoldable pub Leads : (C : Chip) → (C.State → Type 0) → List C.Call → C.State → Type 0
 Leads C P [] v = P v
-Leads C P (c ∷ cs) v = C.Typed c × (C.number (answer C c v) ≡ 0) × Leads C P cs (next C c v)
+Leads C P (c ∷ cs) v = C.Typed c × (C.refusal (answer C c v) ≡ None) × Leads C P cs (next C c v)
 
 -- ---- the 6522
 
@@ -93,7 +93,7 @@ unfoldable pub Shows25 : List Step25 → Tpi → Type 0
 Shows25 [] v = Unit {0}
 Shows25 ((c gives byte asserted irq shows air) ∷ steps) v =
     ((Chip25.chip).Typed c)
-    × ((answer Chip25.chip c v).refusal ≡ 0)
+    × ((answer Chip25.chip c v).refusal ≡ None)
     × ((answer Chip25.chip c v).«data» ≡ byte)
     × ((answer Chip25.chip c v).irq ≡ irq)
     × (air_of (next Chip25.chip c v) ≡ air)

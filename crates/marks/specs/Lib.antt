@@ -1,2 +1,4 @@
 pub mod Marks
 pub mod Matches
+pub mod Refusals
+pub mod Demands

@@ -1,6 +1,8 @@
 -- How deep repeats stand, and whether each is closed. Lines may be given as texts, or as the places where they stand: `line` says which
 -- text each is.
-use Rattle.std.specs.Prelude.{Bool, false, ◌||◌, List, [], ◌∷◌, ℕ, ◌+◌, ◌-◌, eqb, ltb, if◌then◌else◌}
+use Rattle.std.specs.Prelude.{Bool, false, ◌||◌, List, [], ◌∷◌, ℕ, ◌+◌, ◌-◌, eqb, ltb, Result, Ok, Err, if◌then◌else◌}
+use Rattle.marks.specs.declared.Refusal.{Refusal}
+use Rattle.marks.specs.declared.Refusal.TheVariants.{TooDeep, Unmatched}
 use Rattle.marks.specs.Marks.{closes, opens}
 
 -- some line opens a repeat inside 4 others, d being open before these lines; a close with none open closes nothing
@@ -19,6 +21,6 @@ unmatched line d (x ∷ xs) =
     (if opens (line x) then unmatched line (d + 1) xs else
     unmatched line d xs)
 
--- 27 where repeats stand too deep, or else 28 where one is unmatched; 0 where neither is so
-unfoldable pub match_of : {A : Type 0} → (A → List ℕ) → List A → ℕ
-match_of line xs = if deeper line 0 xs then 27 else (if unmatched line 0 xs then 28 else 0)
+-- too deep where repeats stand too deep, or else unmatched where one is
+unfoldable pub match_of : {A : Type 0} → (A → List ℕ) → List A → Result (Unit {0}) Refusal
+match_of line xs = if deeper line 0 xs then Err TooDeep else (if unmatched line 0 xs then Err Unmatched else Ok tt)

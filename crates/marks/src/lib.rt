@@ -3,84 +3,93 @@
 
 ghost use Rattle.std.specs.Prelude.{◌≡◌};
 ghost use Rattle.lines.specs.Places.{line_at};
-ghost use Rattle.marks.specs.Marks.{closes as closes_of, count_of, turns_of};
+ghost use Rattle.marks.specs.Marks.{closes as closes_of, count_of, opens, turns_of};
 ghost use Rattle.marks.specs.Matches.{match_of};
+ghost use Rattle.marks.specs.Refusals.{number_of};
 
+// Why a session with repeats is refused, by document 02's numbers.
+#[derive(Clone, Copy, Debug, PartialEq, Eq)]
+pub enum Refusal {
+    FileTooLong = 26,
+    TooDeep = 27,
+    Unmatched = 28,
+    TooManyLines = 29,
+}
+
+impl Refusal {
+    pub fn number(self) -> u8
+        ensures { result ≡ number_of self }
+    {
+        self as u8
+    }
+}
+
+// How many repeats may stand in one another.
+pub const DEEPEST: u8 = 4;
+
+#[tactic(auto, unfolding(crate::specs::Marks::closes))]
 fn closes(line: &[u8]) -> bool
     ensures { result ≡ closes_of line.now }
 {
-    if line.len() != 2 {
-        return false;
-    }
-    (line[0] == 70) & (line[1] == 49)
+    matches!(*line, [b'F', b'1'])
 }
 
-fn count(line: &[u8]) -> u32
+#[tactic(auto, unfolding(crate::specs::Marks::count_of))]
+fn count(line: &[u8]) -> Option<u16>
     ensures { result ≡ count_of line.now }
 {
-    if line.len() != 6 {
-        return 65536;
+    match *line {
+        [b'F', b'0', a, b, c, d] => digits::word(a, b, c, d),
+        _ => None,
     }
-    if line[0] != 70 {
-        return 65536;
-    }
-    if line[1] != 48 {
-        return 65536;
-    }
-    digits::word(line[2], line[3], line[4], line[5])
 }
 
 // Whether the line at a place closes a repeat.
 pub fn closes_at(text: &[u8], p: u32) -> bool
     ensures { result ≡ closes_of (line_at text.now p) }
 {
-    let end = lines::end_at(text, p);
-    let start = lines::start_at(text, p);
-    closes(&text[start..end])
+    closes(lines::line_at(text, p))
 }
 
-// How often the line at a place runs the block behind it, with so many levels left; 65536 or more where it opens none.
-pub fn turns_at(text: &[u8], p: u32, levels: u8) -> u32
+fn opens_at(text: &[u8], p: u32) -> bool
+    ensures { result ≡ opens (line_at text.now p) }
+{
+    count(lines::line_at(text, p)).is_some()
+}
+
+// How often the line at a place runs the block behind it, with so many levels left; with none it opens nothing.
+#[tactic(auto, unfolding(crate::specs::Marks::turns_of))]
+pub fn turns_at(text: &[u8], p: u32, levels: u8) -> Option<u16>
     ensures { result ≡ turns_of levels (line_at text.now p) }
 {
-    if levels < 1 {
-        return 65536;
+    if levels == 0 {
+        return None;
     }
-    let end = lines::end_at(text, p);
-    let start = lines::start_at(text, p);
-    count(&text[start..end])
+    count(lines::line_at(text, p))
 }
 
-// 27 where repeats stand too deep, else 28 where one is unmatched, else 0.
-pub fn matched(text: &[u8], table: &[u32]) -> u8
+// Whether repeats stand too deep, or else one of them is unmatched.
+pub fn matched(text: &[u8], table: &[u32]) -> Result<(), Refusal>
     ensures { result ≡ match_of (line_at text.now) table.now }
 {
-    let mut here: usize = 0;
     let mut depth: u8 = 0;
     let mut lost = false;
-    while here < table.len() {
-        let p = table[here];
-        here += 1;
+    for &p in table {
         if closes_at(text, p) {
             if depth == 0 {
                 lost = true;
             } else {
                 depth -= 1;
             }
-        } else {
-            if turns_at(text, p, 1) < 65536 {
-                if depth == 4 {
-                    return 27;
-                }
-                depth += 1;
+        } else if opens_at(text, p) {
+            if depth == DEEPEST {
+                return Err(Refusal::TooDeep);
             }
+            depth += 1;
         }
     }
-    if lost {
-        return 28;
+    if lost || 0 < depth {
+        return Err(Refusal::Unmatched);
     }
-    if 0 < depth {
-        return 28;
-    }
-    0
+    Ok(())
 }

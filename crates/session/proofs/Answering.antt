@@ -8,6 +8,7 @@ use lib.Dec.{eqb, ltb}
 use lib.ListN.{length}
 use borrow.Author.Tests.{ne_eqb}
 use Rattle.clocks.proofs.Tests.{picked}
+use Rattle.calls.specs.Refusals.{number_of}
 use Rattle.replies.specs.Hex.{digit_of, hex_of, long_of}
 use Rattle.frames.specs.Frames.{frame_of}
 use Rattle.replies.specs.Replies.{told, render}
@@ -41,7 +42,7 @@ long_quiet n =
 
 told_quiet : (r : Reply) → Quiet (told r)
 unfolding told
-told_quiet (Refused n) = hex_quiet n
+told_quiet (Refused r) = hex_quiet (number_of r)
 told_quiet (Done l) = quiet_append _ _ (hex_quiet 0) (hex_quiet l)
 told_quiet (Data l b) = quiet_append _ _ (quiet_append _ _ (hex_quiet 0) (hex_quiet l)) (hex_quiet b)
 told_quiet (Read l b m) = quiet_append _ _ (quiet_append _ _ (quiet_append _ _ (hex_quiet 0) (hex_quiet l)) (hex_quiet b)) (hex_quiet m)

@@ -1,5 +1,5 @@
 -- The answers to a file that is cut, though not all of a line is kept that goes on.
-use Rattle.std.specs.Prelude.{if◌then◌else◌}
+use Rattle.std.specs.Prelude.{Option, if◌then◌else◌}
 use mathlib.Core.Path.{◌≡◌, refl, ap, sym, ◌∙◌}
 use mathlib.Core.Bool.{Bool, true, false}
 use mathlib.Core.List.{List, [], ◌∷◌, ◌++◌, append_assoc}
@@ -27,11 +27,11 @@ answers b l s = says_all b (ended l s ++ last_line (open_line l s))
 -- two lines of over 32 bytes do the same and get the same answer, whatever their bytes
 long_next : (b : Bench) (p q : List ℕ) → 32 < length p → 32 < length q → next_of b p ≡ next_of b q
 unfolding next_of
-long_next b p q h k = ap (λ (f : Frame). (step_of b f).bench) (long_unknown p h ∙ sym (long_unknown q k))
+long_next b p q h k = ap (λ (f : Option Frame). (step_of b f).bench) (long_unknown p h ∙ sym (long_unknown q k))
 
 long_says : (b : Bench) (p q : List ℕ) → 32 < length p → 32 < length q → says_of b p ≡ says_of b q
 unfolding says_of
-long_says b p q h k = ap (λ (f : Frame). render (step_of b f).reply) (long_unknown p h ∙ sym (long_unknown q k))
+long_says b p q h k = ap (λ (f : Option Frame). render (step_of b f).reply) (long_unknown p h ∙ sym (long_unknown q k))
 
 -- hence 33 bytes of a line say as much as all of it
 same_long : (b : Bench) (p q : List ℕ) (ls : List (List ℕ)) → 32 < length p → 32 < length q → says_all b (p ∷ ls) ≡ says_all b (q ∷ ls)

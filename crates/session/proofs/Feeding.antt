@@ -1,4 +1,5 @@
 -- The loop over the lines of an input: what holds at each line, how it goes on, and what it comes to.
+use Rattle.std.specs.Prelude.{Option, None, Some}
 use mathlib.Core.Path.{◌≡◌, refl, ap, sym, ◌∙◌}
 use mathlib.Core.Bool.{Bool, true, false}
 use mathlib.Core.List.{List, [], ◌∷◌, ◌++◌, append_assoc, append-nil}
@@ -8,12 +9,14 @@ use native.Mathlib.Omega.{arith}
 use lib.ListN.{length, take, drop, length-drop, drop_of_length-le}
 use lib.Seq.{length-take-le, take_all}
 use borrow.Author.Tests.{le-leb, lt-leb}
+use Rattle.clocks.proofs.Options.{none_some, same_some}
 use Rattle.clocks.proofs.Lists.{drop_later}
 use Rattle.lines.specs.Lines.{last_line, end_from}
 use Rattle.lines.proofs.Lines.{last_some}
 use Rattle.lines.proofs.Demands as Lines
 use Rattle.frames.specs.Frames.{frame_of}
 use Rattle.replies.specs.Replies.{render, Put}
+use Rattle.replies.specs.declared.Reply.{Reply}
 use Rattle.replies.proofs.Demands.{replies_fit}
 use Rattle.session.specs.Steps.{step_of}
 use Rattle.session.specs.Sessions.{next_of, says_of, says_all}
@@ -31,32 +34,36 @@ unfolding lines_in
 none_in true = refl
 none_in false = refl
 
-module _ (s : List ℕ) (at : ℕ) (h : at < length s) where
-  pub ends_whole : Ends true s at (length s)
-  unfolding lines_in
-  ends_whole =
-      let some : 0 < length (drop at s) = simp length-drop (omega arith) in
-      let all : length (drop at s) ≤ length s - at = simp length-drop (omega arith) in
-      let none : drop (length s + 1) s ≡ [] = drop_of_length-le s {i = length s + 1} (omega arith) in
-      record {
-        begun = omega arith;
-        found = λ k. rw (take_all (length s - at) (drop at s) all, none) (last_some (drop at s) some);
-        missing = λ k. absurd (omega arith);
-      }
+module _ (s : List ℕ) (at : ℕ) where
+  pub ends_past : (whole : Bool) → length s ≤ at → Ends whole s at None
+  ends_past whole h =
+      record { found = λ end e. absurd (none_some end e); missing = λ e. ap (lines_in whole) (drop_of_length-le s h) ∙ none_in whole }
 
-  pub ends_missing : end_from s at ≡ length s → Ends false s at (length s + 1)
-  unfolding lines_in
-  ends_missing e = record { begun = omega arith; found = λ k. absurd (omega arith); missing = λ k. (Lines.end_missing s at e).0 }
+  module _ (h : at < length s) where
+    pub ends_whole : Ends true s at (Some (length s))
+    unfolding lines_in
+    ends_whole =
+        let some : 0 < length (drop at s) = simp length-drop (omega arith) in
+        let all : length (drop at s) ≤ length s - at = simp length-drop (omega arith) in
+        let none : drop (length s + 1) s ≡ [] = drop_of_length-le s {i = length s + 1} (omega arith) in
+        record {
+          found = λ end e. rw (sym (same_some (length s) end e))
+              (omega arith, omega arith, rw (take_all (length s - at) (drop at s) all, none) (last_some (drop at s) some));
+          missing = λ e. absurd (none_some (length s) (sym e));
+        }
 
-  pub ends_found : (end_from s at ≡ length s → ⊥) → Ends false s at (end_from s at)
-  unfolding lines_in
-  ends_found n =
-      let w = Lines.end_within s at in
-      record {
-        begun = w.1 (omega arith);
-        found = λ k. Lines.end_found s at (omega arith);
-        missing = λ k. absurd (omega (arith, w.0));
-      }
+    pub ends_missing : end_from s at ≡ length s → Ends false s at None
+    unfolding lines_in
+    ends_missing e = record { found = λ end e. absurd (none_some end e); missing = λ k. (Lines.end_missing s at e).0 }
+
+    pub ends_found : (end_from s at ≡ length s → ⊥) → Ends false s at (Some (end_from s at))
+    unfolding lines_in
+    ends_found n =
+        let w = Lines.end_within s at in
+        record {
+          found = λ end e. rw (sym (same_some (end_from s at) end e)) (w.1 (omega arith), w.0, Lines.end_found s at (omega arith));
+          missing = λ e. absurd (none_some (end_from s at) (sym e));
+        }
 
 -- ---- line by line
 
@@ -134,17 +141,16 @@ module _ {b₀ : Bench} {ls : List (List ℕ)} {out₀ out : List ℕ} {b : Benc
 module _ (whole : Bool) (s : List ℕ) {b₀ : Bench} {out₀ out : List ℕ} {b : Bench} {at made : ℕ}
     (g : Going b₀ (lines_in whole s) out₀ out b at made (lines_in whole (drop at s))) where
   pub going_on :
-      (end : ℕ) (r : Stepped) (out' : List ℕ) (made' : ℕ) → Ends whole s at end → end ≤ length s → made + 13 ≤ length out
-      → r ≡ step_of b (frame_of (take (end - at) (drop at s))) → length out' ≡ length out
-      → Put out out' made made' (render r.reply)
-      → Going b₀ (lines_in whole s) out₀ out' r.bench (end + 1) made' (lines_in whole (drop (end + 1) s))
-  going_on end r out' made' f k h e z p =
+      {end : ℕ} {b' : Bench} {y : Reply} {out' : List ℕ} {made' : ℕ} {e : Option ℕ} → Ends whole s at e → e ≡ Some end
+      → 13 ≤ length out - made → ◌≡◌ {A = Stepped} (record { bench = b'; reply = y }) (step_of b (frame_of (take (end - at) (drop at s))))
+      → length out' ≡ length out → Put out out' made made' (render y)
+      → Going b₀ (lines_in whole s) out₀ out' b' (end + 1) made' (lines_in whole (drop (end + 1) s))
+  going_on {end} {b'} {y} {out'} {made'} f k h e z p =
+      let x = f.found end k in
       let size : length (take (end - at) (drop at s)) ≡ end - at =
-      length-take-le (end - at) (drop at s) (simp length-drop (omega arith)) in
-      going_line g (take (end - at) (drop at s)) _ r out' (end + 1) made' (f.found k) (omega (arith, f.begun)) h e z p
-
-  pub going_past : length s ≤ at → Feeds b₀ (lines_in whole s) out₀ out (record { bench = b; used = at; made = made })
-  going_past h = going_end g (ap (lines_in whole) (drop_of_length-le s h) ∙ none_in whole)
+      length-take-le (end - at) (drop at s) (simp length-drop (omega (arith, x.0, x.1))) in
+      going_line g (take (end - at) (drop at s)) _ (record { bench = b'; reply = y }) out' (end + 1) made' x.2 (omega (arith, x.0))
+      (omega (arith, g.room)) e z p
 
 -- a bench that was taken apart, and put together again
 pub from_core : (b : Bench) (k : Core) {ls : List (List ℕ)} {x y : List ℕ} {r : Fed} → k ≡ core_of b → Feeds (joined b.riot.ram k) ls x y r → Feeds b ls x y r

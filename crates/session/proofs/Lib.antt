@@ -1,4 +1,3 @@
-pub mod Moved
 pub mod Feeding
 pub mod Cuts
 pub mod Taking

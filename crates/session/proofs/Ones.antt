@@ -1,18 +1,11 @@
 -- A promise about a buffer allows one result.
-use mathlib.Core.Path.{◌≡◌, sym, ap, ◌∙◌}
-use mathlib.Core.List.{List}
-use Prim.Native.Nat.{ℕ, ◌*◌, ◌≤◌}
+use mathlib.Core.Path.{◌≡◌, sym, ◌∙◌}
+use Prim.Native.Nat.{◌*◌, ◌≤◌}
 use native.Mathlib.Decide.{dec_le}
 use native.Mathlib.Omega.{arith}
-use lib.ListN.{length, drop}
-use Rattle.clocks.proofs.Lists.{same_halves}
-use Rattle.session.specs.Pieces.{Written}
+use lib.ListN.{length}
+use Rattle.lines.proofs.Written.{written_one}
 use Rattle.session.specs.Demands
-
-pub written_one : {out x y t : List ℕ} {m k : ℕ} → Written out x m t → Written out y k t → (x ≡ y) × (m ≡ k)
-written_one {out} {x} {y} {t} {m} {k} a b =
-    let e : m ≡ k = a.size ∙ sym b.size in
-    (same_halves m k x y e (a.text ∙ sym b.text) (a.rest ∙ ap (λ (n : ℕ). drop n out) e ∙ sym b.rest), e)
 
 pub feeds_one : Demands.FeedsOne
 feeds_one b ls out x y r t f g =

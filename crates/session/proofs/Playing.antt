@@ -1,15 +1,16 @@
 -- The loop over the lines at some places: the one over the lines of an input, with room for every answer.
 use mathlib.Core.Path.{◌≡◌, refl, ap, ◌∙◌}
 use mathlib.Core.List.{List, ◌∷◌}
-use Prim.Native.Nat.{ℕ, ◌+◌, ◌-◌, ◌*◌, ◌/◌, ◌%◌, ◌<◌, ◌≤◌, min}
+use Prim.Native.Nat.{ℕ, ◌+◌, ◌*◌, ◌/◌, ◌<◌, ◌≤◌}
 use native.Mathlib.Numerals.{add-one}
 use native.Mathlib.Omega.{arith}
-use lib.ListN.{length, get_or, take, drop, drop_of_length-le}
+use lib.ListN.{length, get_or, drop, drop_of_length-le}
 use lib.Seq.{drop-cons}
 use Rattle.lines.specs.Places.{line_at, lines_at}
-use Rattle.lines.proofs.Places.{part_line, lines_length}
+use Rattle.lines.proofs.Places.{lines_length}
 use Rattle.frames.specs.Frames.{frame_of}
 use Rattle.replies.specs.Replies.{render, Put}
+use Rattle.replies.specs.declared.Reply.{Reply}
 use Rattle.replies.proofs.Demands.{replies_fit}
 use Rattle.session.specs.Steps.{step_of}
 use Rattle.session.specs.Pieces.{Taken, Feeds, Plays}
@@ -38,21 +39,19 @@ module _ (s ps : List ℕ) where
 
   module _ {b₀ : Bench} {out₀ out : List ℕ} {b : Bench} {i made : ℕ} (g : Playing b₀ (lines_at s ps) out₀ out b made (lines_at s (drop i ps))) where
     pub playing_line :
-        (end at : ℕ) (r : Stepped) (out' : List ℕ) (made' : ℕ) → i < length ps
-        → end ≡ min (get_or ps i 0 / 65536) (length s) → at ≡ min (get_or ps i 0 % 65536) (min (get_or ps i 0 / 65536) (length s))
-        → r ≡ step_of b (frame_of (take (end - at) (drop at s))) → length out' ≡ length out
-        → Put out out' made made' (render r.reply)
-        → Playing b₀ (lines_at s ps) out₀ out' r.bench made' (lines_at s (drop (i + 1) ps))
-    playing_line end at r out' made' h p q e z put =
+        {b' : Bench} {y : Reply} {out' : List ℕ} {made' : ℕ} → i < length ps
+        → ◌≡◌ {A = Stepped} (record { bench = b'; reply = y }) (step_of b (frame_of (line_at s (get_or ps i 0))))
+        → length out' ≡ length out → Put out out' made made' (render y)
+        → Playing b₀ (lines_at s ps) out₀ out' b' made' (lines_at s (drop (i + 1) ps))
+    playing_line {b'} {y} {out'} {made'} h e z put =
         let l = line_at s (get_or ps i 0) in
         let more = lines_at s (drop (i + 1) ps) in
         let parts : lines_at s (drop i ps) ≡ l ∷ more = rw (add-one i, drop-cons ps i 0 h) in
         let room : made + 13 * length (l ∷ more) ≤ length out = rw (ap length parts) at g.room in
-        let step : r ≡ step_of b (frame_of l) = e ∙ ap (λ (x : List ℕ). step_of b (frame_of x)) (part_line s (get_or ps i 0) end at p q) in
         record {
           used = g.used + (length l + 1);
-          going = going_line g.going l more r out' _ made' parts refl (omega arith) step z put;
-          room = omega (arith, z, (put.fits (omega arith)).place, replies_fit r.reply);
+          going = going_line g.going l more (record { bench = b'; reply = y }) out' _ made' parts refl (omega arith) e z put;
+          room = omega (arith, z, (put.fits (omega arith)).place, replies_fit y);
         }
 
     pub playing_end : length ps ≤ i → Feeds b₀ (lines_at s ps) out₀ out (record { bench = b; used = g.used; made = made })

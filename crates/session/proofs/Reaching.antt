@@ -1,19 +1,18 @@
 -- Whatever lines come, each chip of the bench stays a reached one; and which number a reply has.
-use Rattle.std.specs.Prelude.{if◌then◌else◌}
+use Rattle.std.specs.Prelude.{Option, None, Some}
 use mathlib.Core.Path.{◌≡◌, refl, sym, ap, ◌∙◌}
-use mathlib.Core.Bool.{Bool, true, false, true≢false}
+use mathlib.Core.Bool.{true≢false}
 use mathlib.Core.List.{List, [], ◌∷◌}
 use Prim.Native.Nat.{ℕ}
-use native.Mathlib.Omega.{arith}
-use lib.Dec.{eqb}
-use borrow.Author.Tests.{eqb-true}
 use Rattle.frames.specs.Frames.{frame_of}
 use Rattle.frames.specs.Demands as Frames
 use Rattle.frames.specs.declared.Frame.{Frame}
-use Rattle.frames.specs.declared.Frame.TheVariants.{Unknown, To22, To25, To32, To45}
+use Rattle.frames.specs.declared.Frame.TheVariants.{To22, To25, To32, To45}
 use Rattle.frames.proofs.Demands.{frames_typed}
 use Rattle.replies.specs.declared.Reply.{Reply}
 use Rattle.replies.specs.declared.Reply.TheVariants.{Refused, Done, Data, Read, Number}
+use Rattle.calls.specs.declared.Refusal.{Refusal}
+use Rattle.calls.specs.declared.Refusal.TheVariants.{IllFormed, NoFrame}
 use Rattle.chips.specs.Chips as Chips
 use Rattle.chips.specs.Chips.{Chip, answer, at_power_up, by}
 use Rattle.chips.proofs.Chips.{Lawful, reached_well, answers}
@@ -38,13 +37,13 @@ record Reached (b : Bench) : Type 0 where
   crtc : Chips.Reached Chip45.chip b.crtc
 
 -- the chip that is called is one call further, and the others are as they were
-reached_step : (b : Bench) (f : Frame) → Frames.Typed f → Reached b → Reached (step_of b f).bench
+reached_step : (b : Bench) (f : Option Frame) → Frames.Typed f → Reached b → Reached (step_of b f).bench
 unfolding step_of
-reached_step b Unknown t r = r
-reached_step b (To22 c) t r = search (by c t r.via)
-reached_step b (To25 c) t r = search (by c t r.tpi)
-reached_step b (To32 c) t r = search (by c t r.riot)
-reached_step b (To45 c) t r = search (by c t r.crtc)
+reached_step b None t r = r
+reached_step b (Some (To22 c)) t r = search (by c t r.via)
+reached_step b (Some (To25 c)) t r = search (by c t r.tpi)
+reached_step b (Some (To32 c)) t r = search (by c t r.riot)
+reached_step b (Some (To45 c)) t r = search (by c t r.crtc)
 
 reached_all : (b : Bench) (ls : List (List ℕ)) → Reached b → Reached (next_all b ls)
 unfolding next_of
@@ -58,60 +57,53 @@ reached ls = reached_all power_up ls (record { via = at_power_up; tpi = at_power
 pub chips_reached : Demands.ChipsReached
 chips_reached ls = let r = reached ls in (r.via, r.tpi, r.riot, r.crtc)
 
--- ---- the refusal that a reply says, 0 for none
+-- ---- the refusal that a reply says
 
-number : Reply → ℕ
-number (Refused n) = n
-number (Done l) = 0
-number (Data l x) = 0
-number (Read l x m) = 0
-number (Number l n) = 0
+refusal : Reply → Option Refusal
+refusal (Refused r) = Some r
+refusal (Done l) = None
+refusal (Data l x) = None
+refusal (Read l x m) = None
+refusal (Number l n) = None
 
-told_none : (k : Kind) (l d n : ℕ) → number (told k l d n) ≡ 0
-unfolding number
-told_none nothing l d n = refl
-told_none a_byte l d n = refl
-told_none (a_byte_and_mask m) l d n = refl
-told_none a_forecast l d n = refl
-told_none (turns t) l d n = refl
+refusal_replied : (n : Option Refusal) (k : Kind) (l d x : ℕ) → refusal (replied n (told k l d x)) ≡ n
+unfolding refusal
+refusal_replied (Some r) k l d x = refl
+refusal_replied None nothing l d x = refl
+refusal_replied None a_byte l d x = refl
+refusal_replied None (a_byte_and_mask m) l d x = refl
+refusal_replied None a_forecast l d x = refl
+refusal_replied None (turns t) l d x = refl
 
-number_replied : (n : ℕ) (k : Kind) (l d x : ℕ) → number (replied n (told k l d x)) ≡ n
-unfolding number
-number_replied n k l d x = go (eqb n 0) refl
-  where
-    go : (t : Bool) → eqb n 0 ≡ t → number (if t then told k l d x else Refused n) ≡ n
-    go true e = told_none k l d x ∙ sym (eqb-true n 0 e)
-    go false e = refl
-
--- where a reply's number is from: 2 is for what is no frame, and any other is the answer's of some chip, whose record is reached if those of the
--- bench are
-data Says (b : Bench) : Frame → ℕ → Type 1 where
-  of_none : Says b Unknown 2
+-- where a reply's refusal is from: NoFrame is for what is no frame, and any other is the answer's of some chip, whose record is reached if
+-- those of the bench are
+data Says (b : Bench) : Option Frame → Option Refusal → Type 1 where
+  of_none : Says b None (Some NoFrame)
   of_chip :
-      {f : Frame} (C : Chip) (S : Lawful C) (c : C.Call) (v : C.State) → (Reached b → Chips.Reached C v)
-      → Says b f (C.number (answer C c v))
+      {f : Option Frame} (C : Chip) (S : Lawful C) (c : C.Call) (v : C.State) → (Reached b → Chips.Reached C v)
+      → Says b f (C.refusal (answer C c v))
 
-says : (b : Bench) (f : Frame) → Says b f (number (step_of b f).reply)
-unfolding step_of number
-says b Unknown = of_none
-says b (To22 c) = rw (number_replied _ (kind22 c b.via) _ _ _) (of_chip Chip22.chip Lawful22.lawful c b.via (λ r. r.via))
-says b (To25 c) = rw (number_replied _ (kind25 c b.tpi) _ _ _) (of_chip Chip25.chip Lawful25.lawful c b.tpi (λ r. r.tpi))
-says b (To32 c) = rw (number_replied _ (kind32 c b.riot) _ _ _) (of_chip Chip32.chip Lawful32.lawful c b.riot (λ r. r.riot))
-says b (To45 c) = rw (number_replied _ (kind45 c b.crtc) _ _ _) (of_chip Chip45.chip Lawful45.lawful c b.crtc (λ r. r.crtc))
+says : (b : Bench) (f : Option Frame) → Says b f (refusal (step_of b f).reply)
+unfolding step_of refusal
+says b None = of_none
+says b (Some (To22 c)) = rw (refusal_replied _ (kind22 c b.via) _ _ _) (of_chip Chip22.chip Lawful22.lawful c b.via (λ r. r.via))
+says b (Some (To25 c)) = rw (refusal_replied _ (kind25 c b.tpi) _ _ _) (of_chip Chip25.chip Lawful25.lawful c b.tpi (λ r. r.tpi))
+says b (Some (To32 c)) = rw (refusal_replied _ (kind32 c b.riot) _ _ _) (of_chip Chip32.chip Lawful32.lawful c b.riot (λ r. r.riot))
+says b (Some (To45 c)) = rw (refusal_replied _ (kind45 c b.crtc) _ _ _) (of_chip Chip45.chip Lawful45.lawful c b.crtc (λ r. r.crtc))
 
--- a reached chip answers no call with 1, and no chip any with 2
-not_1 : {b : Bench} {f : Frame} {n : ℕ} → Says b f n → Reached b → n ≡ 1 → ⊥
-not_1 of_none r e = omega (arith, e)
+-- a reached chip refuses no call as ill-formed, and no chip any as no frame
+not_1 : {b : Bench} {f : Option Frame} {n : Option Refusal} → Says b f n → Reached b → n ≡ Some IllFormed → ⊥
+not_1 of_none r e = cc
 not_1 (of_chip C S c v h) r e = true≢false (sym (reached_well C S v (h r)) ∙ (answers C S).one_only_ill c v e)
 
-only_2 : {b : Bench} {f : Frame} {n : ℕ} → Says b f n → n ≡ 2 → f ≡ Unknown
+only_2 : {b : Bench} {f : Option Frame} {n : Option Refusal} → Says b f n → n ≡ Some NoFrame → f ≡ None
 only_2 of_none e = refl
 only_2 (of_chip C S c v h) e = absurd ((answers C S).never_2 c v e)
 
 pub never_1 : Demands.Never1
-unfolding number
-never_1 ls l e = not_1 (says (next_all power_up ls) (frame_of l)) (reached ls) (ap number e)
+unfolding refusal
+never_1 ls l e = not_1 (says (next_all power_up ls) (frame_of l)) (reached ls) (ap refusal e)
 
 pub two_exact : Demands.TwoExact
-unfolding step_of number
-two_exact b l = (λ e. only_2 (says b (frame_of l)) (ap number e), λ e. ap (λ (f : Frame). (step_of b f).reply) e)
+unfolding step_of refusal
+two_exact b l = (λ e. only_2 (says b (frame_of l)) (ap refusal e), λ e. ap (λ (f : Option Frame). (step_of b f).reply) e)

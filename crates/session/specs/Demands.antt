@@ -1,7 +1,7 @@
 -- What the demands ask of sessions. proofs/Demands.antt has a proof of each statement, under its name in small letters.
-use Rattle.std.specs.Prelude.{◌≡◌, ◌↔◌, List, [], ◌++◌, ℕ, ◌+◌, ◌*◌, ◌<◌, ◌≤◌, length, take, drop}
+use Rattle.std.specs.Prelude.{◌≡◌, ◌↔◌, List, [], ◌++◌, ℕ, ◌+◌, ◌*◌, ◌<◌, ◌≤◌, length, take, drop, None}
 use Rattle.frames.specs.Frames.{frame_of}
-use Rattle.frames.specs.declared.Frame.TheVariants.{Unknown}
+use Rattle.calls.specs.declared.Refusal.TheVariants.{IllFormed, NoFrame}
 use Rattle.replies.specs.declared.Reply.TheVariants.{Refused}
 use Rattle.chips.specs.Chips.{Reached}
 use Rattle.via6522.specs.Chip as Chip22
@@ -62,13 +62,13 @@ ChipsReached =
     × Reached Chip32.chip (next_all power_up ls).riot
     × Reached Chip45.chip (next_all power_up ls).crtc
 
--- so refusal 1 is given to no line
+-- so refusal 1, for an ill-formed record, is given to no line
 abbrev pub Never1 : Type 0
-Never1 = (ls : List (List ℕ)) (l : List ℕ) → (step_of (next_all power_up ls) (frame_of l)).reply ≡ Refused 1 → ⊥
+Never1 = (ls : List (List ℕ)) (l : List ℕ) → (step_of (next_all power_up ls) (frame_of l)).reply ≡ Refused IllFormed → ⊥
 
 -- refusal 2 is given exactly to a line that is no frame
 abbrev pub TwoExact : Type 0
-TwoExact = (b : Bench) (l : List ℕ) → ((step_of b (frame_of l)).reply ≡ Refused 2) ↔ (frame_of l ≡ Unknown)
+TwoExact = (b : Bench) (l : List ℕ) → ((step_of b (frame_of l)).reply ≡ Refused NoFrame) ↔ (frame_of l ≡ None)
 
 -- one line is written for each line of a file, and nothing after the last one's LF
 abbrev pub LineForLine : Type 0

@@ -1,7 +1,8 @@
 -- A file that comes in pieces, through buffers of any size.
-use Rattle.std.specs.Prelude.{ℕ, ◌+◌, ◌-◌, ◌*◌, ◌<◌, ◌≤◌, ◌≡◌, Bool, true, false, List, [], ◌∷◌, ◌++◌, leb, length, take, drop, if◌then◌else◌}
+use Rattle.std.specs.Prelude.{ℕ, ◌+◌, ◌-◌, ◌*◌, ◌<◌, ◌≤◌, ◌≡◌, Bool, true, false, List, [], ◌∷◌, ◌++◌, leb, length, take, drop, Option, None, Some, if◌then◌else◌}
 use Rattle.session.specs.Steps.{power_up}
 use Rattle.lines.specs.Lines.{ended, open_line, last_line}
+use Rattle.lines.specs.Written.{Written}
 use Rattle.session.specs.Sessions.{next_of, says_of, next_all, says_all}
 use Rattle.session.specs.declared.Bench.{Bench}
 use Rattle.session.specs.declared.Fed.{Fed}
@@ -24,12 +25,6 @@ takes room b (l ∷ ls) =
     if leb 13 room
     then before l (says_of b l) (takes (room - length (says_of b l)) (next_of b l) ls)
     else record { bench = b; used = 0; text = [] }
-
--- an output buffer after a text was put at its front: that text, and beyond it what was there
-pub record Written (before now : List ℕ) (made : ℕ) (x : List ℕ) : Type 0 where
-  pub size : made ≡ length x
-  pub text : take made now ≡ x
-  pub rest : drop made now ≡ drop made before
 
 -- what is made of some lines with an output buffer: as many as it has room for are taken, and their answers are at its front
 pub record Feeds (b : Bench) (ls : List (List ℕ)) (before now : List ℕ) (r : Fed) : Type 0 where
@@ -55,11 +50,12 @@ unfoldable pub lines_in : Bool → List ℕ → List (List ℕ)
 lines_in true s = last_line s
 lines_in false s = ended [] s
 
--- the first of them, of what begins at a place, ends at r; there is none where r is beyond the input
-pub record Ends (whole : Bool) (s : List ℕ) (at r : ℕ) : Type 0 where
-  pub begun : at ≤ r
-  pub found : r ≤ length s → lines_in whole (drop at s) ≡ take (r - at) (drop at s) ∷ lines_in whole (drop (r + 1) s)
-  pub missing : length s < r → lines_in whole (drop at s) ≡ []
+-- the first of them, of what begins at a place, ends at r; else there is none
+pub record Ends (whole : Bool) (s : List ℕ) (at : ℕ) (r : Option ℕ) : Type 0 where
+  pub found :
+      (end : ℕ) → r ≡ Some end
+      → (at ≤ end) × (end ≤ length s) × (lines_in whole (drop at s) ≡ take (end - at) (drop at s) ∷ lines_in whole (drop (end + 1) s))
+  pub missing : r ≡ None → lines_in whole (drop at s) ≡ []
 
 -- ---- a file cut into pieces
 

@@ -1,6 +1,8 @@
 -- One frame on the bench: the chip that it names answers, and its answer is the reply.
+use Rattle.std.specs.Prelude.{Option, None, Some}
 use Rattle.frames.specs.declared.Frame.{Frame}
-use Rattle.frames.specs.declared.Frame.TheVariants.{Unknown, To22, To25, To32, To45}
+use Rattle.frames.specs.declared.Frame.TheVariants.{To22, To25, To32, To45}
+use Rattle.calls.specs.declared.Refusal.TheVariants.{NoFrame}
 use Rattle.replies.specs.declared.Reply.TheVariants.{Refused}
 use Rattle.chips.specs.Chips.{next}
 use Rattle.via6522.specs.Chip as Chip22
@@ -38,10 +40,10 @@ power_up =
       crtc = (Chip45.chip).power_up;
     }
 
--- what is no frame is refused with 2; a frame moves the chip that it names, and no other
-unfoldable pub step_of : Bench → Frame → Stepped
-step_of b Unknown = record { bench = b; reply = Refused 2 }
-step_of b (To22 c) = record { bench = with_via (next Chip22.chip c b.via) b; reply = reply22 b.via c }
-step_of b (To25 c) = record { bench = with_tpi (next Chip25.chip c b.tpi) b; reply = reply25 b.tpi c }
-step_of b (To32 c) = record { bench = with_riot (next Chip32.chip c b.riot) b; reply = reply32 b.riot c }
-step_of b (To45 c) = record { bench = with_crtc (next Chip45.chip c b.crtc) b; reply = reply45 b.crtc c }
+-- what is no frame is refused as that; a frame moves the chip that it names, and no other
+unfoldable pub step_of : Bench → Option Frame → Stepped
+step_of b None = record { bench = b; reply = Refused NoFrame }
+step_of b (Some (To22 c)) = record { bench = with_via (next Chip22.chip c b.via) b; reply = reply22 b.via c }
+step_of b (Some (To25 c)) = record { bench = with_tpi (next Chip25.chip c b.tpi) b; reply = reply25 b.tpi c }
+step_of b (Some (To32 c)) = record { bench = with_riot (next Chip32.chip c b.riot) b; reply = reply32 b.riot c }
+step_of b (Some (To45 c)) = record { bench = with_crtc (next Chip45.chip c b.crtc) b; reply = reply45 b.crtc c }

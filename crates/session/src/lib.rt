@@ -1,7 +1,7 @@
 // A session on the bench of four chips: lines in, replies out, whole files in pieces of any size.
 #![tactic(auto)]
 
-ghost use Rattle.std.specs.Prelude.{◌≡◌, [], ◌<◌, length};
+ghost use Rattle.std.specs.Prelude.{◌≡◌, [], ◌<◌, ◌≤◌, length, IfSome};
 ghost use Rattle.lines.specs.Lines.{ended};
 ghost use Rattle.lines.specs.Places.{lines_at};
 ghost use Rattle.frames.specs.Frames.{frame_of};
@@ -9,6 +9,7 @@ ghost use Rattle.session.specs.Steps.{power_up, step_of};
 ghost use Rattle.session.specs.Core.{joined, core_of, stepped};
 ghost use Rattle.session.specs.Pieces.{lines_in, Ends, Feeds, Finishes, Plays};
 
+use calls::Refusal;
 use crtc6545::Crtc;
 use frames::Frame;
 use replies::Reply;
@@ -33,13 +34,6 @@ struct Core {
     crtc: Crtc,
 }
 
-// What a line leaves of the core, and its reply.
-#[derive(Clone, Copy)]
-struct Answered {
-    core: Core,
-    reply: Reply,
-}
-
 // What a line leaves of the bench, and its reply.
 #[derive(Clone, Copy)]
 pub struct Stepped {
@@ -62,81 +56,71 @@ pub struct Played {
     pub made: usize,
 }
 
+impl From<Bench> for Core {
+    ghost from_gives = { λ bench core. core ≡ core_of bench };
+
+    fn from(bench: Bench) -> Core {
+        Core {
+            via: bench.via,
+            tpi: bench.tpi,
+            io: bench.riot.io,
+            crtc: bench.crtc,
+        }
+    }
+}
+
 impl Core {
     // What a frame does: only the chip that it names is touched.
-    fn step(mut self, ram: &mut [u8; 128], frame: Frame) -> Answered
-        ensures { stepped ram.new result ≡ step_of (joined ram.old self) frame }
+    #[tactic(auto, unfolding(crate::specs::Steps::step_of))]
+    fn step(&mut self, ram: &mut [u8; 128], frame: Option<Frame>) -> Reply
+        ensures { stepped ram.new self.new result ≡ step_of (joined ram.old self.old) frame }
     {
         match frame {
-            Frame::Unknown => Answered {
-                core: self,
-                reply: Reply::Refused(2),
-            },
-            Frame::To22(call) => {
+            None => Reply::Refused(Refusal::NoFrame),
+            Some(Frame::To22(call)) => {
                 let after = calling::on22(self.via, call);
-                let via = after.via;
-                let reply = after.reply;
-                self.via = via;
-                Answered { core: self, reply }
+                self.via = after.chip;
+                after.reply
             }
-            Frame::To25(call) => {
+            Some(Frame::To25(call)) => {
                 let after = calling::on25(self.tpi, call);
-                let tpi = after.tpi;
-                let reply = after.reply;
-                self.tpi = tpi;
-                Answered { core: self, reply }
+                self.tpi = after.chip;
+                after.reply
             }
-            Frame::To32(call) => {
+            Some(Frame::To32(call)) => {
                 let after = calling::on32(self.io, ram, call);
-                let io = after.io;
-                let reply = after.reply;
-                self.io = io;
-                Answered { core: self, reply }
+                self.io = after.chip;
+                after.reply
             }
-            Frame::To45(call) => {
+            Some(Frame::To45(call)) => {
                 let after = calling::on45(self.crtc, call);
-                let crtc = after.crtc;
-                let reply = after.reply;
-                self.crtc = crtc;
-                Answered { core: self, reply }
+                self.crtc = after.chip;
+                after.reply
             }
         }
     }
 
-    fn answered(self, ram: &mut [u8; 128], line: &[u8]) -> Answered
-        ensures { stepped ram.new result ≡ step_of (joined ram.old self) (frame_of line.now) }
+    fn answered(&mut self, ram: &mut [u8; 128], line: &[u8]) -> Reply
+        ensures { stepped ram.new self.new result ≡ step_of (joined ram.old self.old) (frame_of line.now) }
     {
         self.step(ram, frames::decode(line))
     }
 
-    // The bench that the core and the RAM are.
+    // The bench that the core and the RAM are: of two values, so no From.
     fn bench(self, ram: [u8; 128]) -> Bench
         ensures { result ≡ joined ram self }
     {
-        let via = self.via;
-        let tpi = self.tpi;
-        let io = self.io;
-        let crtc = self.crtc;
         Bench {
-            via,
-            tpi,
-            riot: Riot { ram, io },
-            crtc,
-        }
-    }
-
-    fn fed(self, ram: [u8; 128], used: usize, made: usize) -> Fed
-        ensures { result ≡ record { bench = joined ram self; used = used; made = made } }
-    {
-        Fed {
-            bench: self.bench(ram),
-            used,
-            made,
+            via: self.via,
+            tpi: self.tpi,
+            riot: Riot { ram, io: self.io },
+            crtc: self.crtc,
         }
     }
 }
 
 impl Bench {
+    #[tactic(auto, unfolding(crate::specs::Steps::power_up))]
     pub fn power_up() -> Bench
         ensures { result ≡ power_up }
     {
@@ -148,59 +132,46 @@ impl Bench {
         }
     }
 
-    fn core(self) -> Core
-        ensures { result ≡ core_of self }
-    {
-        let riot = self.riot;
-        let via = self.via;
-        let tpi = self.tpi;
-        let io = riot.io;
-        let crtc = self.crtc;
-        Core { via, tpi, io, crtc }
-    }
-
     // One line without its LF, of any length and content.
     pub fn line(self, line: &[u8]) -> Stepped
         ensures { result ≡ step_of self (frame_of line.now) }
     {
         let mut ram = self.riot.ram;
-        let core = self.core();
-        let after = core.answered(&mut ram, line);
-        let left = after.core;
-        let reply = after.reply;
+        let mut core = Core::from(self);
+        let reply = core.answered(&mut ram, line);
         Stepped {
-            bench: left.bench(ram),
+            bench: core.bench(ram),
             reply,
         }
     }
 
     // As many lines as there is room for the answers of, 13 bytes each: those that an LF ends, or all of the input as one. Both come
-    // to a chip through this one loop, so that all the work on a line becomes part of it.
+    // to a chip through this one loop, so that all the work on a line becomes part of it: a closure that finds the ends would make two.
+    #[tactic(auto, using(crate::proofs::Feeding::going_start))]
     fn taken(self, input: &[u8], whole: bool, out: &mut [u8]) -> Fed
         ensures { Feeds self (lines_in whole input.now) out.old out.new result }
     {
         let mut ram = self.riot.ram;
-        let mut core = self.core();
-        let mut at: usize = 0;
+        let mut core = Core::from(self);
+        let mut used: usize = 0;
         let mut made: usize = 0;
-        while at < input.len() {
-            let end = line_end(input, at, whole);
-            if input.len() < end {
-                return core.fed(ram, at, made);
-            }
+        while let Some(end) = line_end(input, used, whole) {
             if out.len() - made < 13 {
-                return core.fed(ram, at, made);
+                break;
             }
-            let after = core.answered(&mut ram, &input[at..end]);
-            core = after.core;
-            let reply = after.reply;
+            let reply = core.answered(&mut ram, &input[used..end]);
             made = replies::put(out, made, reply);
-            at = end + 1;
+            used = end + 1;
         }
-        core.fed(ram, at, made)
+        Fed {
+            bench: core.bench(ram),
+            used,
+            made,
+        }
     }
 
     // The whole lines of a piece, as many as there is room for.
+    #[tactic(auto, unfolding(crate::specs::Pieces::lines_in))]
     pub fn feed(self, input: &[u8], out: &mut [u8]) -> Fed
         ensures { Feeds self (ended [] input.now) out.old out.new result }
     {
@@ -208,14 +179,15 @@ impl Bench {
     }
 
     // The answer to a last line that no LF ends; none for an empty one, and none without 13 bytes for it.
+    #[tactic(auto, using(crate::proofs::Feeding::finishes), unfolding(crate::specs::Pieces::lines_in))]
     pub fn finish(self, line: &[u8], out: &mut [u8]) -> usize
         ensures { Finishes self line.now out.old out.new result }
     {
-        let fed = self.taken(line, true, out);
-        fed.made
+        self.taken(line, true, out).made
     }
 
     // The lines at these places of a text, where there are 13 bytes for each answer; else none.
+    #[tactic(auto, using(crate::proofs::Playing::playing_none, crate::proofs::Playing::playing_start, crate::proofs::Playing::playing_line))]
     pub fn play(self, text: &[u8], places: &[u32], out: &mut [u8]) -> Played
         ensures { Plays self (lines_at text.now places.now) out.old out.new result }
     {
@@ -226,18 +198,11 @@ impl Bench {
             };
         }
         let mut ram = self.riot.ram;
-        let mut core = self.core();
-        let mut i: usize = 0;
+        let mut core = Core::from(self);
         let mut made: usize = 0;
-        while i < places.len() {
-            let p = places[i];
-            let end = lines::end_at(text, p);
-            let at = lines::start_at(text, p);
-            let after = core.answered(&mut ram, &text[at..end]);
-            core = after.core;
-            let reply = after.reply;
+        for &p in places {
+            let reply = core.answered(&mut ram, lines::line_at(text, p));
             made = replies::put(out, made, reply);
-            i += 1;
         }
         Played {
             bench: core.bench(ram),
@@ -246,17 +211,21 @@ impl Bench {
     }
 }
 
-// Where the line ends that begins at `at`; beyond the input where none ends there.
-fn line_end(input: &[u8], at: usize, whole: bool) -> usize
-    requires { at < length input.now }
-    ensures { Ends whole input.now at result }
+// Where the line ends that begins at `at`, if one does.
+#[tactic(auto, using(lines::proofs::Demands::end_within, crate::proofs::Feeding::ends_past, crate::proofs::Feeding::ends_whole, crate::proofs::Feeding::ends_missing, crate::proofs::Feeding::ends_found))]
+fn line_end(input: &[u8], at: usize, whole: bool) -> Option<usize>
+    ensures within { IfSome result (λ end. (at ≤ end) × (end ≤ length input.now) × (at < length input.now)) }
+    ensures line { Ends whole input.now at result }
 {
+    if input.len() <= at {
+        return None;
+    }
     if whole {
-        return input.len();
+        return Some(input.len());
     }
     let end = lines::end_from(input, at);
     if end == input.len() {
-        return end + 1;
+        return None;
     }
-    end
+    Some(end)
 }

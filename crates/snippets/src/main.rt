@@ -2,52 +2,16 @@
 // tests/readme holds both against README.md.
 #![tactic(auto)]
 
-use clocks::Forecast;
 use std::io;
 use std::io::Print;
-
-fn say(rt: &impl Print, text: &[u8]) -> io::Result<()> {
-    rt.write_all(text)
-}
-
-fn say_line(rt: &impl Print, name: &[u8], line: bool) -> io::Result<()> {
-    say(rt, name)?;
-    if line {
-        say(rt, b" is true\n")
-    } else {
-        say(rt, b" is false\n")
-    }
-}
-
-// The last digit of a number, in upper case.
-fn digit(n: u8) -> u8 {
-    let d = n % 16;
-    if d < 10 { d + 48 } else { d + 55 }
-}
-
-fn say_byte(rt: &impl Print, name: &[u8], byte: u8) -> io::Result<()> {
-    let digits = [digit(byte / 16), digit(byte), 10];
-    say(rt, name)?;
-    say(rt, b" is 0x")?;
-    say(rt, &digits)
-}
-
-fn say_forecast(rt: &impl Print, name: &[u8], forecast: Forecast) -> io::Result<()> {
-    say(rt, name)?;
-    match forecast {
-        Forecast::Never => say(rt, b" is Forecast::Never\n"),
-        Forecast::In(clocks) => println!(rt; " is Forecast::In({clocks})"),
-    }
-}
 
 fn interval(rt: &impl Print) -> io::Result<()> {
     let riot = riot6532::Riot::power_up();
     let answer = riot.write(0x9D, 52); // load the timer: 52, divided by 8, interrupt enabled
     let ahead = answer.riot.forecast(); // ahead.forecast is Forecast::In(417)
     let later = answer.riot.run(417); // later.irq is true
-    let forecast = ahead.forecast;
-    say_forecast(rt, b"ahead.forecast", forecast)?;
-    say_line(rt, b"later.irq", later.irq)
+    println!(rt; "ahead.forecast is Forecast::{:?}", ahead.forecast)?;
+    println!(rt; "later.irq is {}", later.irq)
 }
 
 fn one_shot(rt: &impl Print) -> io::Result<()> {
@@ -59,12 +23,11 @@ fn one_shot(rt: &impl Print) -> io::Result<()> {
     let later = loaded.via.run(4); // later.irq is true
     let read = later.via.read(4); // read.cleared is 0x40: the read cleared T1's flag
     let shown = read.answer; // shown.data is 0xFF, shown.irq is false
-    let forecast = ahead.forecast;
-    say_forecast(rt, b"ahead.forecast", forecast)?;
-    say_line(rt, b"later.irq", later.irq)?;
-    say_byte(rt, b"read.cleared", read.cleared)?;
-    say_byte(rt, b"shown.data", shown.data)?;
-    say_line(rt, b"shown.irq", shown.irq)
+    println!(rt; "ahead.forecast is Forecast::{:?}", ahead.forecast)?;
+    println!(rt; "later.irq is {}", later.irq)?;
+    println!(rt; "read.cleared is 0x{:02X}", read.cleared)?;
+    println!(rt; "shown.data is 0x{:02X}", shown.data)?;
+    println!(rt; "shown.irq is {}", shown.irq)
 }
 
 fn sender(rt: &impl Print) -> io::Result<()> {
@@ -76,9 +39,9 @@ fn sender(rt: &impl Print) -> io::Result<()> {
     let done = written.via.run(16);
     let read = done.via.read(10); // read.cleared is 0x04: the eighth shift had set IFR2
     let shown = read.answer; // shown.data is 0xA5: the byte has come round
-    say_line(rt, b"serial.output", serial.output)?;
-    say_byte(rt, b"read.cleared", read.cleared)?;
-    say_byte(rt, b"shown.data", shown.data)
+    println!(rt; "serial.output is {}", serial.output)?;
+    println!(rt; "read.cleared is 0x{:02X}", read.cleared)?;
+    println!(rt; "shown.data is 0x{:02X}", shown.data)
 }
 
 fn served(rt: &impl Print) -> io::Result<()> {
@@ -89,11 +52,11 @@ fn served(rt: &impl Print) -> io::Result<()> {
     let read = fallen.tpi.read(7); // AIR: read.data is 0x02, read.irq is false: I1 is in service
     let lower = read.tpi.pins(0xFF, 0xFF, 0xFC); // I0 falls, and has to wait: lower.irq is false
     let ended = lower.tpi.write(7, 0); // I1's service ends: ended.irq is true
-    say_line(rt, b"fallen.irq", fallen.irq)?;
-    say_byte(rt, b"read.data", read.data)?;
-    say_line(rt, b"read.irq", read.irq)?;
-    say_line(rt, b"lower.irq", lower.irq)?;
-    say_line(rt, b"ended.irq", ended.irq)
+    println!(rt; "fallen.irq is {}", fallen.irq)?;
+    println!(rt; "read.data is 0x{:02X}", read.data)?;
+    println!(rt; "read.irq is {}", read.irq)?;
+    println!(rt; "lower.irq is {}", lower.irq)?;
+    println!(rt; "ended.irq is {}", ended.irq)
 }
 
 fn main(rt: HostRuntime) -> io::Result<()> {

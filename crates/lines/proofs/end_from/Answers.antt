@@ -1,15 +1,8 @@
-use mathlib.Core.Path.{refl, sym, ◌∙◌}
-use Rattle.lines.proofs.Ends.{end_here, end_next, end_past}
+use Rattle.lines.proofs.Ends.{end_from_is}
 use Rattle.lines.proofs.end_from.Goals as goal
 
-pub loop-i-init : goal.loop-i-init
-loop-i-init c = refl
+pub returns-in-Some : goal.returns-in-Some
+returns-in-Some c = end_from_is _ _ _ c.min-from.ensures _ c.in-Some.ensures.place
 
-pub returns-then-s-i-eq10 : goal.returns-then-s-i-eq10
-returns-then-s-i-eq10 c = sym (c.loop-i.invariant ∙ end_here _ _ c.loop-i-test.true c.if-s-i-eq10.true)
-
-pub loop-i-preserved : goal.loop-i-preserved
-loop-i-preserved c = c.loop-i.invariant ∙ end_next _ _ c.loop-i-test.true c.if-s-i-eq10.false
-
-pub returns : goal.returns
-returns c = sym (c.loop-i.invariant ∙ end_past _ _ c.loop-i-test.false)
+pub returns-in-None : goal.returns-in-None
+returns-in-None c = end_from_is _ _ _ c.min-from.ensures _ c.in-None.ensures.place

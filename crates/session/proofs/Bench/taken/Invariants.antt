@@ -5,9 +5,9 @@ use Rattle.session.specs.Core.{joined}
 use Rattle.session.proofs.Feeding.{Going}
 use Rattle.session.proofs.Bench.taken.Given as goal
 
-abbrev pub invariant-loop-at : goal.invariant-loop-at
-invariant-loop-at l =
-    Going (joined l.initial.ram l.initial.core) (lines_in l.whole l.input) l.initial.out l.out (joined l.ram l.core) l.at l.made (lines_in l.whole (drop l.at l.input))
+abbrev pub invariant-loop-end : goal.invariant-loop-end
+invariant-loop-end l =
+    Going (joined l.initial.ram l.initial.core) (lines_in l.whole l.input) l.initial.out l.out (joined l.ram l.core) l.used l.made (lines_in l.whole (drop l.used l.input))
 
-abbrev pub decreases-loop-at : goal.decreases-loop-at
-decreases-loop-at l = length l.input - l.at
+abbrev pub decreases-loop-end : goal.decreases-loop-end
+decreases-loop-end l = length l.input - l.used

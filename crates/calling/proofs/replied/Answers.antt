@@ -1,8 +1,0 @@
-use borrow.Author.Tests.{eq-eqb, ne_eqb}
-use Rattle.calling.proofs.replied.Goals as goal
-
-pub returns-then-refusal-eq0 : goal.returns-then-refusal-eq0
-returns-then-refusal-eq0 c = rw (eq-eqb _ 0 c.if-refusal-eq0.true)
-
-pub returns-else-refusal-eq0 : goal.returns-else-refusal-eq0
-returns-else-refusal-eq0 c = rw (ne_eqb _ 0 c.if-refusal-eq0.false)
