@@ -1,87 +1,37 @@
 // The program: standard input is a session, standard output its answers.
 #![tactic(auto)]
 
-ghost use Rattle.std.specs.Prelude.{◌≡◌, ◌+◌, ◌*◌, ◌<◌, ◌≤◌, ◌≤ℤ◌, ◌↔◌, pos, true, length, take, IfSome};
+ghost use Rattle.std.specs.Prelude.{◌+◌, ◌*◌, ◌<◌, ◌≤◌, length, take, IfSome, OnOk};
 ghost use Rattle.std.specs.Io.KnownBytes.{Appends};
 ghost use Rattle.session.specs.Sessions.{session};
 ghost use Rattle.turns.specs.Turns.{holding};
-ghost use Rattle.bench.specs.Turns.{gave as gave_of, Turned, Ends};
-ghost use Rattle.bench.specs.Streams.{Took, Streams};
+ghost use Rattle.bench.specs.Turns.{Turned, Ends};
+ghost use Rattle.bench.specs.Streams.{Streams};
 
+use pipes::Pipes;
 use session::Bench;
 use std::io;
 use std::io::Eprint;
-use turns::{Read, Went};
+use turns::Went;
 
-// What the read gave, what came of it, and whether all that there was to write was written.
+// What the read gave, what came of it, and whether all that there was to write was written: the rest is promised where it was not, too.
 #[derive(Clone, Copy)]
 struct Turn {
-    read: Read,
+    read: Option<usize>,
     went: Went,
     written: bool,
 }
 
-// How the turns ended: whether the last of them would go on, how many there were, and whether the input came to its end and all of
-// its answers were written.
+// Why not all of the session was answered: a read or a write failed, or as many turns were made as 64 bits can count.
 #[derive(Clone, Copy)]
-struct Ended {
-    going: bool,
-    turns: u64,
-    whole: bool,
-}
-
-// What the system answers to a read: how many bytes it put into the space, or -1 where it failed; standard error says why.
-fn got<R: io::Read>(says: &impl Eprint, input: &mut R, space: &mut [u8]) -> isize
-    ensures within { result ≤ℤ pos (length space.new) }
-    ensures bytes { Took (R.remaining input.old) (R.remaining input.new) result space.new }
-{
-    match input.read(space) {
-        Ok(n) => n as isize,
-        Err(e) => {
-            let _ = eprintln!(says; "bench: standard input: {e}");
-            -1
-        }
-    }
-}
-
-// The answer of a read that had this space, as a number of bytes.
-fn gave(got: isize, space: &[u8]) -> Read
-    ensures { result ≡ gave_of got (length space.now) }
-{
-    if got < 0 {
-        return Read::Failed;
-    }
-    Read::Bytes((got as usize).min(space.len()))
-}
-
-// Whether a read came to the end of the input.
-fn met_end(read: Read) -> bool
-    ensures { result ≡ true ↔ read ≡ Read.Bytes 0 }
-{
-    match read {
-        Read::Bytes(n) => n == 0,
-        Read::Failed => false,
-    }
-}
-
-// Whether all of a text was written; where not, standard error says why.
-fn said<W: io::Write>(says: &impl Eprint, output: &mut W, text: &[u8]) -> bool
-    ensures { result ≡ true → Appends (W.contents output.old) (W.contents output.new) text.now }
-{
-    match output.write_all(text) {
-        Ok(()) => true,
-        Err(e) => {
-            let _ = eprintln!(says; "bench: standard output: {e}");
-            false
-        }
-    }
+enum Cut {
+    Failed,
+    Counted,
 }
 
 // One read, and the answers to what it completes.
-fn one_turn<R: io::Read, W: io::Write>(
-    says: &impl Eprint,
-    input: &mut R,
-    output: &mut W,
+fn one_turn<E: Eprint, R: io::Read, W: io::Write>(
+    pipes: &mut Pipes<E, R, W>,
     bench: Bench,
     buf: &mut [u8],
     kept: usize,
@@ -89,14 +39,12 @@ fn one_turn<R: io::Read, W: io::Write>(
 ) -> Turn
     requires { (kept ≤ length buf.old) × (3 * length buf.old + 13 ≤ length out.old) }
     ensures turned { Turned (holding bench (take kept buf.old)) kept out.old result buf.new out.new }
-    ensures streams { kept < length buf.old → Streams (holding bench (take kept buf.old)) (R.remaining input.old)
-        (R.remaining input.new) (W.contents output.old) (W.contents output.new) result buf.new }
+    ensures streams { kept < length buf.old → Streams (holding bench (take kept buf.old)) (R.remaining pipes.old.input)
+        (R.remaining pipes.new.input) (W.contents pipes.old.output) (W.contents pipes.new.output) result buf.new }
 {
-    let got = got(says, input, &mut buf[kept..]);
-    let read = gave(got, &buf[kept..]);
+    let read = pipes.read(&mut buf[kept..]);
     let went = turns::taken(bench, buf, kept, read, out);
-    let made = went.made;
-    let written = said(says, output, &out[..made]);
+    let written = pipes.write(&out[..went.made]);
     Turn {
         read,
         went,
@@ -105,34 +53,38 @@ fn one_turn<R: io::Read, W: io::Write>(
 }
 
 // Turns until no more may come or not all was written. They are counted because the prover wants every loop to end, and input need not.
-fn all_turns<R: io::Read, W: io::Write>(says: &impl Eprint, input: &mut R, output: &mut W) -> Ended
+fn all_turns<E: Eprint, R: io::Read, W: io::Write>(pipes: &mut Pipes<E, R, W>) -> Result<(), Cut>
     ensures ends { Ends result }
-    ensures answers { result.whole ≡ true → IfSome (R.remaining input.old)
-        (λ s. Appends (W.contents output.old) (W.contents output.new) (session s)) }
+    ensures answers { OnOk result (IfSome (R.remaining pipes.old.input)
+        (λ s. Appends (W.contents pipes.old.output) (W.contents pipes.new.output) (session s))) }
 {
     let mut buf = [0u8; 65536];
     let mut out = [0u8; 196621];
     let mut bench = Bench::power_up();
-    let mut kept: usize = 0;
-    let mut going = true;
-    let mut turns: u64 = 0;
-    let mut whole = false;
-    while going & (turns < u64::MAX) {
-        let t = one_turn(says, input, output, bench, &mut buf, kept, &mut out);
-        let went = t.went;
-        bench = went.bench;
-        kept = went.kept;
-        going = went.more & t.written;
-        whole = t.written & met_end(t.read);
-        turns += 1;
+    let mut kept = 0;
+    for turn in 0..u64::MAX {
+        let t = one_turn(pipes, bench, &mut buf, kept, &mut out);
+        if !t.written {
+            return Err(Cut::Failed);
+        }
+        if !t.went.more {
+            return if t.read == Some(0) {
+                Ok(())
+            } else {
+                Err(Cut::Failed)
+            };
+        }
+        bench = t.went.bench;
+        kept = t.went.kept;
     }
-    Ended {
-        going,
-        turns,
-        whole,
-    }
+    Err(Cut::Counted)
 }
 
 fn main(rt: HostRuntime) {
-    all_turns(&rt, &mut rt.stdin(), &mut rt.stdout());
+    let _ = all_turns(&mut Pipes {
+        name: "bench",
+        says: &rt,
+        input: rt.stdin(),
+        output: rt.stdout(),
+    });
 }

@@ -1,64 +1,47 @@
 -- What the program does to an input whose bytes are known, and to an output that is known to hold some.
 use mathlib.Core.Path.{◌≡◌, ap, sym, ◌∙◌, subst}
-use mathlib.Core.Bool.{Bool, true, false, ◌&&◌}
-use mathlib.Core.List.{List, [], ◌++◌, append-nil, append_assoc}
+use mathlib.Core.Bool.{Bool, true, false}
+use mathlib.Core.List.{List, [], ◌++◌, append-nil}
+use mathlib.Core.Logic.{◌⊎◌}
 use Prim.Native.Nat.{ℕ, ◌+◌, ◌<◌, ◌≤◌}
 use native.Mathlib.Decide.{dec_lt}
 use native.Mathlib.Omega.{arith}
-use lib.Dec.{ltb}
-use lib.ListN.{length, take, drop}
+use lib.ListN.{length, take}
 use lib.Seq.{take-add, take_all, length-take-le}
 use Rattle.std.proofs.Common.{length-append}
-use Rattle.std.specs.Prelude.{Option, None, Some, IfSome}
+use borrow.Rule.Slice.PartMut.{put_mid}
+use Rattle.std.proofs.KnownBytes.{Consumes-trans, Appends-trans}
+use Rattle.std.specs.Prelude.{Option, None, Some, IfSome, Ok}
+use Rattle.pipes.proofs.Behind.{front, behind}
 use Rattle.std.specs.Io.KnownBytes.{Appends, Consumes, IsAtEnd}
-use Rattle.clocks.proofs.Tests.{both}
 use Rattle.lines.specs.Lines.{lines_of}
 use Rattle.lines.specs.Places.{cut_of}
-use Rattle.replies.specs.Replies.{render}
-use Rattle.replies.specs.declared.Reply.TheVariants.{Refused}
+use Rattle.replies.specs.Replies.{refusal_line}
+use Rattle.marks.specs.Refusals.{number_of}
+use Rattle.marks.specs.declared.Refusal.TheVariants.{FileTooLong}
 use Rattle.blocks.specs.Blocks.{itself}
 use Rattle.blocks.proofs.Judged.{too_long}
 use Rattle.session.specs.Steps.{power_up}
 use Rattle.session.specs.Sessions.{says_all}
 use Rattle.session.specs.declared.Bench.{Bench}
-use Rattle.unrolled.specs.Windows.{number_of, full_of, answer_of, Goes}
+use Rattle.unrolled.specs.Windows.{judged, full_of, answer_of, Goes}
 use Rattle.unrolled.specs.declared.Gone.{Gone}
 use Rattle.unrolled.proofs.Demands.{number_alone}
-use Rattle.repeats.proofs.Ends.{Playing, said_on}
+use Rattle.repeats.proofs.Ends.{Playing, said_on, all_played}
 
 -- ---- the input
 
-consumes_more : (a b c : Option (List ℕ)) (x y : List ℕ) → Consumes a b x → Consumes b c y → Consumes a c (x ++ y)
-consumes_more None b c x y p q = tt
-consumes_more (Some xs) None c x y p q = absurd p
-consumes_more (Some xs) (Some ys) None x y p q = absurd q
-consumes_more (Some xs) (Some ys) (Some zs) x y p q = p ∙ ap (λ (u : List ℕ). x ++ u) q ∙ sym (append_assoc x y zs)
-
 -- so many bytes more, behind those that stand there
 pub came_on :
-    (a b c : Option (List ℕ)) (buf buf' : List ℕ) (n k : ℕ) → Consumes a b (take n buf) → take n buf' ≡ take n buf
-    → Consumes b c (take k (drop n buf')) → Consumes a c (take (n + k) buf')
-came_on a b c buf buf' n k p e q =
-    subst (Consumes a c) (sym (take-add n k buf'))
-    (consumes_more a b c (take n buf') (take k (drop n buf')) (subst (Consumes a b) (sym e) p) q)
-
--- none more
-pub came_end :
-    (a b c : Option (List ℕ)) (buf buf' : List ℕ) (n k : ℕ) → Consumes a b (take n buf) → take n buf' ≡ take n buf
-    → Consumes b c (take k (drop n buf')) → k ≡ 0 → Consumes a c (take n buf')
-came_end a b c buf buf' n k p e q z =
-    let m : n + k ≡ n = omega arith in
-    subst (λ (j : ℕ). Consumes a c (take j buf')) m (came_on a b c buf buf' n k p e q)
+    (a b c : Option (List ℕ)) (xs ys : List ℕ) (n m k : ℕ) → n ≤ length xs → k ≤ length ys → Consumes a b (take n xs)
+    → Consumes b c (take k ys) → Consumes a c (take (n + k) (put_mid n m xs ys))
+came_on a b c xs ys n m k h g p q =
+    rw (take-add n k (put_mid n m xs ys), front n m xs ys h, behind n m k xs ys h g) (Consumes-trans a b c (take n xs) (take k ys) p q)
 
 -- a file that is too long
-long : (s : List ℕ) → 32768 < length s → 26 ≡ number_of s
-unfolding number_of
-long s h = too_long itself (length s) (lines_of s) h
-
-refused_long : (s : List ℕ) → 32768 < length s → answer_of s ≡ render (Refused 26)
-refused_long s h =
-    let e : 26 ≡ number_of s = long s h in
-    number_alone s (rw (← e) (omega arith)) ∙ ap (λ (n : ℕ). render (Refused n)) (sym e)
+refused_long : (s : List ℕ) → 32768 < length s → answer_of s ≡ refusal_line (number_of FileTooLong)
+unfolding judged
+refused_long s h = number_alone s FileTooLong (sym (too_long itself (length s) (lines_of s) h))
 
 -- what was read of the input gets the answer that all of it gets: it is all of it, or both are too long
 pub all_of_it :
@@ -81,39 +64,28 @@ all_of_it (Some s) (Some ys) buf n l h c e P p = go (dec_lt n (length buf))
 
 -- ---- the output
 
-appends_more : (a b c : Option (List ℕ)) (x y : List ℕ) → Appends a b x → Appends b c y → Appends a c (x ++ y)
-appends_more None b c x y p q = tt
-appends_more (Some xs) None c x y p q = absurd p
-appends_more (Some xs) (Some ys) None x y p q = absurd q
-appends_more (Some xs) (Some ys) (Some zs) x y p q = q ∙ ap (λ (u : List ℕ). u ++ y) p ∙ append_assoc xs x y
-
--- the answers of the lines played so far
-pub record Saying (s : List ℕ) (output output' : Option (List ℕ)) (played : ℕ) (written going : Bool) : Type 0 where
-  pub so_far : written ≡ true → Appends output output' (says_all power_up (take played (full_of s)))
-  pub on : going ≡ true → written ≡ true
-
+-- the answers of a window more
 pub saying_on :
-    {s notes : List ℕ} {size : ℕ} {text : List ℕ} {b : Bench} {played : ℕ} {written going : Bool} {output output' output'' : Option (List ℕ)}
-    (c : Playing s notes size text b played written going) → Saying s output output' played written going → going ≡ true
-    → (i : List ℕ) (e : i ≡ cut_of s) (g : Gone) {notes' text' : List ℕ} (y : Goes b s i played notes text g notes' text')
-    → (w : Bool) → (w ≡ true → Appends output' output'' (take g.played.made text'))
-    → Saying s output output'' (played + g.lines) w (w && ltb 0 g.lines)
-saying_on {output = output} {output'} {output''} c f t i e g y w a =
-    record {
-      so_far = λ q. subst (Appends output output'') (said_on c i e g y) (appends_more output output' output'' _ _ (f.so_far (f.on t)) (a q));
-      on = λ q. (both w (ltb 0 g.lines) q).0;
-    }
+    {s notes : List ℕ} {size : ℕ} {text : List ℕ} {b : Bench} {played : ℕ} (output output' output'' : Option (List ℕ))
+    (c : Playing s notes size text b played) (i : List ℕ) (e : i ≡ cut_of s) (g : Gone) {notes' text' : List ℕ}
+    (y : Goes b s i played notes text g notes' text') → Appends output output' (says_all power_up (take played (full_of s)))
+    → Appends output' output'' (take g.played.made text') → Appends output output'' (says_all power_up (take (played + g.lines) (full_of s)))
+saying_on output output' output'' c i e g y f a =
+    subst (Appends output output'') (said_on c i e g y) (Appends-trans output output' output'' _ _ f a)
 
-accepted : (s : List ℕ) → number_of s ≡ 0 → answer_of s ≡ says_all power_up (full_of s)
+accepted : (s : List ℕ) → judged s ≡ Ok tt → answer_of s ≡ says_all power_up (full_of s)
 unfolding answer_of
 accepted s e = rw e
 
+-- and of the last
 pub answers :
-    {s notes : List ℕ} {size : ℕ} {text : List ℕ} {b : Bench} {played : ℕ} {written going : Bool} {output output' : Option (List ℕ)}
-    → Playing s notes size text b played written going → Saying s output output' played written going → going ≡ false
-    → written ≡ true → Appends output output' (answer_of s)
-answers {s = s} {played = played} {output = output} {output'} c f e w =
-    subst (Appends output output') (
-    ap (says_all power_up) (take_all played (full_of s) (omega (arith, c.all e w))) ∙ sym (accepted s c.accepted)
-    )
-    (f.so_far w)
+    {s notes : List ℕ} {size : ℕ} {text : List ℕ} {b : Bench} {played : ℕ} (output output' output'' : Option (List ℕ))
+    (c : Playing s notes size text b played) (i : List ℕ) (e : i ≡ cut_of s) (g : Gone) {notes' text' : List ℕ}
+    (y : Goes b s i played notes text g notes' text') → Appends output output' (says_all power_up (take played (full_of s)))
+    → (w : Bool) → (w ≡ true → Appends output' output'' (take g.played.made text'))
+    → (w ≡ false) ⊎ ((w ≡ true) × (g.lines ≡ 0)) → w ≡ true → Appends output output'' (answer_of s)
+answers {s} {played = played} output output' output'' c i e g y f w a h t =
+    let n = all_played c i e g y w h t in
+    subst (Appends output output'')
+    (ap (says_all power_up) (take_all (played + g.lines) (full_of s) (omega (arith, n))) ∙ sym (accepted s c.accepted))
+    (saying_on output output' output'' c i e g y f (a t))

@@ -7,12 +7,13 @@ use native.Mathlib.Decide.{dec_le}
 use native.Mathlib.Omega.{arith}
 use lib.ListN.{length, take, drop, length-take}
 use lib.Seq.{length-take-le}
+use Rattle.std.specs.Prelude.{None, Some}
 use Rattle.clocks.proofs.Lists.{same_halves}
 use Rattle.lines.specs.Lines.{open_line}
 use Rattle.session.specs.Pieces.{Held, at_start, held, wrote, written_for}
 use Rattle.session.proofs.Demands.{any_cut}
-use Rattle.session.proofs.Ones.{written_one}
-use Rattle.turns.specs.Turns.{Came, failed, piece, Outcome, outcome, written, holding, bytes_of, Fits, Shows, held_after}
+use Rattle.lines.proofs.Written.{written_one}
+use Rattle.turns.specs.Turns.{Came, Outcome, outcome, written, holding, bytes_of, Fits, Shows, held_after}
 use Rattle.turns.specs.Demands
 use Rattle.turns.specs.Demands.{Filled, reads}
 use Rattle.turns.specs.declared.Went.{Went}
@@ -30,16 +31,16 @@ turns_write_session pieces later f = from_held at_start pieces later f ∙ any_c
 
 -- ---- what goes from turn to turn
 
-held_more : (h : Held) (ps : List (List ℕ)) (p : List ℕ) → held_after h (ps ++ p ∷ []) ≡ held (held_after h ps) p
+pub held_more : (h : Held) (ps : List (List ℕ)) (p : List ℕ) → held_after h (ps ++ p ∷ []) ≡ held (held_after h ps) p
 held_more h [] p = refl
 held_more h (q ∷ ps) p = held_more (held h q) ps p
 
 -- more may come only after a piece
 after_piece : (h : Held) (c : Came) → (outcome h c).more ≡ true → (p : List ℕ) × ((outcome h c).holds ≡ held h p)
 unfolding outcome
-after_piece h failed e = absurd (false≢true e)
-after_piece h (piece []) e = absurd (false≢true e)
-after_piece h (piece (x ∷ p)) e = (x ∷ p, refl)
+after_piece h None e = absurd (false≢true e)
+after_piece h (Some []) e = absurd (false≢true e)
+after_piece h (Some (x ∷ p)) e = (x ∷ p, refl)
 
 pub goes_on : Demands.GoesOn
 goes_on h c buf out t buf' out' s e r =

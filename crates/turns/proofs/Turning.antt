@@ -1,12 +1,12 @@
 -- What the end of the input, a piece, and a read that brings nothing come to.
-use mathlib.Core.Path.{◌≡◌, refl, sym, ap, ◌∙◌}
+use mathlib.Core.Path.{◌≡◌, refl, ap, ◌∙◌}
 use mathlib.Core.Bool.{true, false}
 use mathlib.Core.List.{List, [], ◌∷◌}
-use Prim.Native.Nat.{ℕ, ◌+◌, ◌-◌, ◌*◌, ◌<◌, ◌≤◌, zero-le}
-use native.Mathlib.Decide.{dec_le}
+use Prim.Native.Nat.{ℕ, ◌+◌, ◌-◌, ◌<◌}
 use native.Mathlib.Omega.{arith}
-use lib.ListN.{length, take, drop, length-take, length-drop}
+use lib.ListN.{length, take, drop, length-drop}
 use lib.Seq.{length-take-le}
+use Rattle.std.specs.Prelude.{Option, None, Some}
 use Rattle.clocks.proofs.Lists.{drop_take}
 use Rattle.lines.specs.Lines.{ended}
 use Rattle.lines.specs.Keeps.{Keeps}
@@ -14,37 +14,31 @@ use Rattle.session.specs.Pieces.{Held, held, wrote, Feeds, Finishes}
 use Rattle.session.specs.declared.Bench.{Bench}
 use Rattle.session.specs.declared.Fed.{Fed}
 use Rattle.session.proofs.Demands.{feed_and_keep}
-use Rattle.turns.specs.Turns.{piece, outcome, holding, bytes_of, brought, Fits, Takes}
-use Rattle.turns.specs.declared.Read.{Read}
-use Rattle.turns.specs.declared.Read.TheVariants.{Failed, Bytes}
-use Rattle.turns.specs.declared.Went.{Went}
+use Rattle.turns.specs.Turns.{outcome, holding, brought, Fits, Takes}
 
 -- nothing came, or the buffers do not fit
-module _ (b : Bench) (kept : ℕ) (buf out : List ℕ) where
-  pub stays_failed : Takes b kept Failed buf out (record { bench = b; kept = kept; made = 0; more = false }) buf out
-  unfolding outcome brought
-  stays_failed =
-      record {
-        fits = λ f.
-            record {
-              holds = refl;
-              within = omega (arith, f.0);
-              beyond = refl;
-              answers = record { size = refl; text = refl; rest = refl };
-              more = refl;
-            };
-        misfits = λ n. (refl, refl, refl);
-      }
-
-  pub stays_misfit :
-      (read : Read) → (Fits kept read buf out → ⊥)
-      → Takes b kept read buf out (record { bench = b; kept = kept; made = 0; more = false }) buf out
-  stays_misfit read n = record { fits = λ f. absurd (n f); misfits = λ m. (refl, refl, refl) }
+pub stays :
+    (b : Bench) (kept : ℕ) (read : Option ℕ) (buf out : List ℕ) → (Fits kept read buf out → read ≡ None)
+    → Takes b kept read buf out (record { bench = b; kept = kept; made = 0; more = false }) buf out
+unfolding outcome brought
+stays b kept read buf out n =
+    record {
+      fits = λ f.
+          rw (n f)
+          (record {
+            holds = refl;
+            within = omega (arith, f.0);
+            beyond = refl;
+            answers = record { size = refl; text = refl; rest = refl };
+            more = refl;
+          });
+      misfits = λ m. (refl, refl, refl);
+    }
 
 -- the end
 pub ends :
-    (b : Bench) (buf out out' : List ℕ) (kept made : ℕ) → Fits kept (Bytes 0) buf out → Finishes b (take kept buf) out out' made
-    → Takes b kept (Bytes 0) buf out (record { bench = b; kept = kept; made = made; more = false }) buf out'
+    (b : Bench) (buf out out' : List ℕ) (kept made : ℕ) → Fits kept (Some 0) buf out → Finishes b (take kept buf) out out' made
+    → Takes b kept (Some 0) buf out (record { bench = b; kept = kept; made = made; more = false }) buf out'
 unfolding outcome brought
 ends b buf out out' kept made f g =
     record {
@@ -60,15 +54,15 @@ ends b buf out out' kept made f g =
     }
 
 -- a piece
-goes_on : (h : Held) (p : List ℕ) → 0 < length p → outcome h (piece p) ≡ record { holds = held h p; text = wrote h p; more = true }
+goes_on : (h : Held) (p : List ℕ) → 0 < length p → outcome h (Some p) ≡ record { holds = held h p; text = wrote h p; more = true }
 unfolding outcome
 goes_on h [] n = absurd (omega arith)
 goes_on h (x ∷ p) n = refl
 
 pub pieces :
-    (b : Bench) (buf buf' out out' : List ℕ) (kept more k : ℕ) (fed : Fed) → 0 < more → Fits kept (Bytes more) buf out
+    (b : Bench) (buf buf' out out' : List ℕ) (kept more k : ℕ) (fed : Fed) → 0 < more → Fits kept (Some more) buf out
     → Feeds b (ended [] (take (kept + more) buf)) out out' fed → Keeps buf buf' fed.used (kept + more) 33 k
-    → Takes b kept (Bytes more) buf out (record { bench = fed.bench; kept = k; made = fed.made; more = true }) buf' out'
+    → Takes b kept (Some more) buf out (record { bench = fed.bench; kept = k; made = fed.made; more = true }) buf' out'
 unfolding brought
 pieces b buf buf' out out' kept more k fed some f g h =
     let p = feed_and_keep b buf buf' out out' kept (kept + more) k fed (omega arith) f.0 f.1 g h in
@@ -89,20 +83,3 @@ pieces b buf buf' out out' kept more k fed some f g h =
           });
       misfits = λ n. absurd (n f);
     }
-
--- there is no more to write than the output buffer has
-pub made_within :
-    {b : Bench} {kept : ℕ} {read : Read} {buf out : List ℕ} {t : Went} {buf' out' : List ℕ} → Takes b kept read buf out t buf' out'
-    → t.made ≤ length out'
-made_within {b} {kept} {read} {buf} {out} {t} {buf'} {out'} r =
-    go (dec_le (kept + bytes_of read) (length buf)) (dec_le (3 * length buf + 13) (length out))
-  where
-    none : (Fits kept read buf out → ⊥) → t.made ≤ length out'
-    none n = rw (r.misfits n).0 zero-le
-
-    go : Dec (kept + bytes_of read ≤ length buf) → Dec (3 * length buf + 13 ≤ length out) → t.made ≤ length out'
-    go (yes h) (yes l) =
-        let w = (r.fits (h, l)).answers in
-        omega (arith, ap length w.text ∙ sym w.size, length-take t.made out')
-    go (no h) d = none (λ e. h e.0)
-    go (yes h) (no l) = none (λ e. l e.1)

@@ -1,11 +1,10 @@
 -- What holds of turns. proofs/Demands.antt has a proof of each statement, under its name in small letters.
-use Rattle.std.specs.Prelude.{◌≡◌, true, List, [], ◌∷◌, ℕ, ◌≤◌, take}
+use Rattle.std.specs.Prelude.{◌≡◌, true, List, [], ◌∷◌, ℕ, ◌≤◌, take, Option, Some}
 use Rattle.lines.specs.Lines.{joined}
 use Rattle.session.specs.Sessions.{session}
 use Rattle.session.specs.Pieces.{Held, at_start}
 use Rattle.session.specs.declared.Bench.{Bench}
-use Rattle.turns.specs.Turns.{Came, piece, outcome, written, holding, Shows, Takes, Reached}
-use Rattle.turns.specs.declared.Read.{Read}
+use Rattle.turns.specs.Turns.{Came, outcome, written, holding, Shows, Takes, Reached}
 use Rattle.turns.specs.declared.Went.{Went}
 
 -- none of some pieces is empty
@@ -16,8 +15,8 @@ Filled ((x ∷ p) ∷ ps) = Filled ps
 
 -- reads that bring these pieces, and then the end; nothing is asked of any that come later
 abbrev pub reads : List (List ℕ) → List Came → List Came
-reads [] later = piece [] ∷ later
-reads (p ∷ ps) later = piece p ∷ reads ps later
+reads [] later = Some [] ∷ later
+reads (p ∷ ps) later = Some p ∷ reads ps later
 
 -- whatever pieces come, and then the end: all that the turns write is the session of all that came
 abbrev pub TurnsWriteSession : Type 0
@@ -34,5 +33,5 @@ GoesOn =
 -- any two results that the promise of `taken` allows coincide, both buffers among them
 abbrev pub TakesOne : Type 0
 TakesOne =
-    (b : Bench) (kept : ℕ) (read : Read) (buf out x y u v : List ℕ) (t s : Went)
+    (b : Bench) (kept : ℕ) (read : Option ℕ) (buf out x y u v : List ℕ) (t s : Went)
     → Takes b kept read buf out t x u → Takes b kept read buf out s y v → (t ≡ s) × (x ≡ y) × (u ≡ v)

@@ -1,17 +1,15 @@
 -- A turn: what one read brings, what is held after it, and what is to be written for it.
-use Rattle.std.specs.Prelude.{◌≡◌, Bool, true, false, List, [], ◌∷◌, ◌++◌, ℕ, ◌+◌, ◌*◌, ◌≤◌, length, take, drop, if◌then◌else◌}
+use Rattle.std.specs.Prelude.{◌≡◌, Bool, true, false, List, [], ◌∷◌, ◌++◌, ℕ, ◌+◌, ◌*◌, ◌≤◌, length, take, drop, Option, None, Some, unwrap_or, option_map, if◌then◌else◌}
 use Rattle.lines.specs.Lines.{last_line}
 use Rattle.session.specs.Sessions.{says_all}
-use Rattle.session.specs.Pieces.{Held, at_start, held, wrote, Written}
+use Rattle.session.specs.Pieces.{Held, at_start, held, wrote}
+use Rattle.lines.specs.Written.{Written}
 use Rattle.session.specs.declared.Bench.{Bench}
-use Rattle.turns.specs.declared.Read.{Read}
-use Rattle.turns.specs.declared.Read.TheVariants.{Failed, Bytes}
 use Rattle.turns.specs.declared.Went.{Went}
 
--- what a read brings: nothing where it failed, else a piece of the input, which is empty at its end
-pub data Came : Type 0 where
-  failed : Came
-  piece : List ℕ → Came
+-- what a read brings: none where it failed, else a piece of the input, which is empty at its end
+abbrev pub Came : Type 0
+Came = Option (List ℕ)
 
 -- what comes of it: what is held then, what is to be written, and whether more may come
 pub record Outcome : Type 0 where
@@ -21,9 +19,9 @@ pub record Outcome : Type 0 where
 
 -- a read that failed leaves what was held; an empty piece is the end of the input, where the open line is answered
 unfoldable pub outcome : Held → Came → Outcome
-outcome h failed = record { holds = h; text = []; more = false }
-outcome h (piece []) = record { holds = h; text = says_all h.bench (last_line h.kept); more = false }
-outcome h (piece (x ∷ s)) = record { holds = held h (x ∷ s); text = wrote h (x ∷ s); more = true }
+outcome h None = record { holds = h; text = []; more = false }
+outcome h (Some []) = record { holds = h; text = says_all h.bench (last_line h.kept); more = false }
+outcome h (Some (x ∷ s)) = record { holds = held h (x ∷ s); text = wrote h (x ∷ s); more = true }
 
 -- all that is written for some reads, one after the other, until no more may come
 abbrev pub written : Held → List Came → List ℕ
@@ -36,16 +34,14 @@ abbrev pub holding : Bench → List ℕ → Held
 holding b kept = record { bench = b; kept = kept }
 
 -- how many bytes a read gave, and what it brought to a buffer, behind what is kept
-abbrev pub bytes_of : Read → ℕ
-bytes_of Failed = 0
-bytes_of (Bytes n) = n
+abbrev pub bytes_of : Option ℕ → ℕ
+bytes_of read = unwrap_or read 0
 
-unfoldable pub brought : Read → ℕ → List ℕ → Came
-brought Failed kept buf = failed
-brought (Bytes n) kept buf = piece (take n (drop kept buf))
+unfoldable pub brought : Option ℕ → ℕ → List ℕ → Came
+brought read kept buf = option_map (λ n. take n (drop kept buf)) read
 
 -- the input buffer has what is kept and what was read, and the output buffer has room for every answer
-abbrev pub Fits : ℕ → Read → List ℕ → List ℕ → Type 0
+abbrev pub Fits : ℕ → Option ℕ → List ℕ → List ℕ → Type 0
 Fits kept read buf out = (kept + bytes_of read ≤ length buf) × (3 * length buf + 13 ≤ length out)
 
 -- a turn and its two buffers, before and after it, show an outcome
@@ -57,7 +53,7 @@ pub record Shows (o : Outcome) (buf out : List ℕ) (t : Went) (buf' out' : List
   pub more : t.more ≡ o.more
 
 -- what `taken` gives: the outcome of what was brought, or where the buffers do not fit it, all as it was and nothing to write
-pub record Takes (b : Bench) (kept : ℕ) (read : Read) (buf out : List ℕ) (t : Went) (buf' out' : List ℕ) : Type 0 where
+pub record Takes (b : Bench) (kept : ℕ) (read : Option ℕ) (buf out : List ℕ) (t : Went) (buf' out' : List ℕ) : Type 0 where
   pub fits : Fits kept read buf out → Shows (outcome (holding b (take kept buf)) (brought read kept buf)) buf out t buf' out'
   pub misfits :
       (Fits kept read buf out → ⊥)

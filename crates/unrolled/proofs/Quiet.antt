@@ -1,10 +1,10 @@
 -- The lines of a written-out session are lines of its file, and so none has an LF in it.
-use Rattle.std.specs.Prelude.{if◌then◌else◌}
+use Rattle.std.specs.Prelude.{Option, None, Some, if◌then◌else◌}
+use Rattle.std.specs.Option.{option_map_or}
 use mathlib.Core.Path.{◌≡◌, ap, sym, ◌∙◌}
 use mathlib.Core.Bool.{Bool, true, false}
 use mathlib.Core.List.{List, [], ◌∷◌, ◌++◌, append-nil}
 use Prim.Native.Nat.{ℕ, zero, suc, ◌+◌, ◌-◌}
-use lib.Dec.{ltb}
 use Rattle.lines.specs.Lines.{ended, open_line, last_line, lines_of, file_of, Quiet, Quiets}
 use Rattle.lines.proofs.Demands.{lines_quiet, one_way}
 use Rattle.marks.specs.Marks.{closes, turns_of}
@@ -39,23 +39,22 @@ blocks_quiet : (k : ℕ) (ls : List (List ℕ)) → Quiets ls → All (blocks_of
 unfolding blocks_of Quiets All
 blocks_quiet k [] p = tt
 blocks_quiet k (l ∷ ls) p =
-    go (closes l) (ltb (turns_of k l) 65536) (blocks_quiet (k + 1) ls p.1) (blocks_quiet (k - 1) ls p.1) (blocks_quiet k ls p.1)
+    go (closes l) (turns_of k l) (blocks_quiet (k + 1) ls p.1) (blocks_quiet (k - 1) ls p.1) (blocks_quiet k ls p.1)
   where
     go :
-        (a c : Bool) → All (blocks_of itself (k + 1) ls) → All (blocks_of itself (k - 1) ls) → All (blocks_of itself k ls)
+        (a : Bool) (o : Option ℕ) → All (blocks_of itself (k + 1) ls) → All (blocks_of itself (k - 1) ls) → All (blocks_of itself k ls)
         → All
         (if a then [] ∷ blocks_of itself (k + 1) ls else
-        (if c then repeated (turns_of k l) (blocks_of itself (k - 1) ls) else
-        line_before l (blocks_of itself k ls)))
-    go true c x y z = (tt, x)
-    go false true x y z =
+        option_map_or (λ n. repeated n (blocks_of itself (k - 1) ls)) o (line_before l (blocks_of itself k ls)))
+    go true o x y z = (tt, x)
+    go false (Some n) x y z =
         let o = of_others (blocks_of itself (k - 1) ls) y in (
-          join (times (turns_of k l) (first (blocks_of itself (k - 1) ls))) (first (others (blocks_of itself (k - 1) ls)))
-              (often (turns_of k l) (first (blocks_of itself (k - 1) ls)) (of_first (blocks_of itself (k - 1) ls) y))
+          join (times n (first (blocks_of itself (k - 1) ls))) (first (others (blocks_of itself (k - 1) ls)))
+              (often n (first (blocks_of itself (k - 1) ls)) (of_first (blocks_of itself (k - 1) ls) y))
               (of_first (others (blocks_of itself (k - 1) ls)) o),
           of_others (others (blocks_of itself (k - 1) ls)) o,
         )
-    go false false x y z = ((p.0, of_first (blocks_of itself k ls) z), of_others (blocks_of itself k ls) z)
+    go false None x y z = ((p.0, of_first (blocks_of itself k ls) z), of_others (blocks_of itself k ls) z)
 
 last_quiet : (l : List ℕ) → Quiet l → Quiets (last_line l)
 unfolding Quiets

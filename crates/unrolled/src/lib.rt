@@ -5,12 +5,13 @@ ghost use Rattle.unrolled.specs.Windows.{Begins, Goes};
 
 use session::{Bench, Played};
 
-// How a session begins: how many lines it has, how much there is to write, and whether its lines are to be played.
+// How a session begins: a buffer is too small for it; it is refused, with so many lines, and there is so much of its number to write; or so
+// many lines of it are to be played.
 #[derive(Clone, Copy)]
-pub struct Begun {
-    pub lines: usize,
-    pub made: usize,
-    pub more: bool,
+pub enum Begun {
+    NoRoom,
+    Told(usize, usize),
+    Lines(usize),
 }
 
 // How many lines a window had, what they left of the bench, and how much there is to write.
@@ -22,42 +23,23 @@ pub struct Gone {
 
 // The places of a session's lines come to the table; where it is refused, its number comes to the output. A table of fewer than
 // 32,768 places may be too small for its lines, and an output of fewer than 13 bytes for an answer: then nothing is done.
+#[tactic(auto, using(crate::proofs::Windows::begins_refused, crate::proofs::Windows::begins_accepted))]
 pub fn begin(file: &[u8], table: &mut [u32], out: &mut [u8]) -> Begun
     ensures { Begins file.now table.old out.old result table.new out.new }
 {
-    if table.len() < 32768 {
-        return Begun {
-            lines: 0,
-            made: 0,
-            more: false,
-        };
-    }
-    if out.len() < 13 {
-        return Begun {
-            lines: 0,
-            made: 0,
-            more: false,
-        };
+    if table.len() < 32768 || out.len() < 13 {
+        return Begun::NoRoom;
     }
     let lines = lines::cut(file, table);
-    let code = blocks::refusal(file, &table[..lines]);
-    if 0 < code {
-        let made = replies::put_refusal(out, 0, code);
-        return Begun {
-            lines,
-            made,
-            more: false,
-        };
-    }
-    Begun {
-        lines,
-        made: 0,
-        more: true,
+    match blocks::refusal(file, &table[..lines]) {
+        Ok(()) => Begun::Lines(lines),
+        Err(refusal) => Begun::Told(lines, replies::put_refusal(out, 0, refusal.number())),
     }
 }
 
 // The lines of the written-out session from line `from` on, as many as there are places for, come to the bench, and their answers to
 // the output. With fewer than 13 bytes for each nothing is done.
+#[tactic(auto, using(crate::proofs::Windows::goes))]
 pub fn window(
     bench: Bench,
     file: &[u8],
