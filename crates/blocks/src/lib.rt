@@ -182,7 +182,7 @@ impl<'a> Session<'a> {
         requires { (from.at ≤ length self.table.now) × (from.used < length out.old) }
         ensures { ThroughBlock (line_at self.entry.text.now) self.entry.table.now from.at levels (window_of from.skip from.used out.old) result out.new }
     {
-        // So does a line.
+        // A line says where the walk goes on, so no range can.
         let mut walk = from;
         while (walk.at < self.table.len()) & (walk.used < out.len()) {
             let p = self.table[walk.at];
