@@ -2,9 +2,9 @@
 use mathlib.Core.Path.{◌≡◌, refl, ap, sym, ◌∙◌, subst}
 use mathlib.Core.Bool.{Bool, true, false≢true}
 use mathlib.Core.List.{List, [], ◌∷◌, ◌++◌, append-nil, append_assoc}
-use Prim.Native.Nat.{ℕ, ◌<◌, ◌≤◌}
+use Prim.Native.Nat.{ℕ, ◌+◌, ◌<◌, ◌≤◌}
 use native.Mathlib.Omega.{arith}
-use lib.ListN.{length, take}
+use lib.ListN.{length, take, length-append}
 use lib.Seq.{length-take-le}
 use borrow.Rule.Slice.PartMut.{put_mid}
 use Rattle.std.proofs.KnownBytes.{Consumes-nil, Appends-nil, Consumes-trans, Consumes-whole, Appends-trans}
@@ -82,28 +82,31 @@ so_far_all h (p ∷ ps) =
 
 -- ---- turn after turn
 
--- what has come off the input, and the answers that the output has grown by
-pub record Open (input input' output output' : Option (List ℕ)) (h : Held) : Type 0 where
+-- what has come off the input, a byte at least for each turn, and the answers that the output has grown by
+pub record Open (input input' output output' : Option (List ℕ)) (h : Held) (turns : ℕ) : Type 0 where
   pub pieces : List (List ℕ)
   pub reached : h ≡ held_after at_start pieces
   pub came : Consumes input input' (joined pieces)
   pub said : Appends output output' (so_far at_start pieces)
+  pub filled : turns ≤ length (joined pieces)
 
 after_piece :
     (h : Held) (c : Came) → (outcome h c).more ≡ true
-    → (p : List ℕ) × (c ≡ Some p) × ((outcome h c).holds ≡ held h p) × ((outcome h c).text ≡ wrote h p)
+    → (p : List ℕ) × (c ≡ Some p) × ((outcome h c).holds ≡ held h p) × ((outcome h c).text ≡ wrote h p) × (0 < length p)
 unfolding outcome
 after_piece h None e = absurd (false≢true e)
 after_piece h (Some []) e = absurd (false≢true e)
-after_piece h (Some (x ∷ p)) e = (x ∷ p, refl, refl, refl)
+after_piece h (Some (x ∷ p)) e = (x ∷ p, refl, refl, refl, omega arith)
 
 last_text : (h : Held) → (outcome h (Some [])).text ≡ at_last h
 unfolding outcome
 last_text h = refl
 
-module _ {input input' input'' output output' output'' : Option (List ℕ)} {h : Held} (o : Open input input' output output' h) where
+module _ {input input' input'' output output' output'' : Option (List ℕ)} {h : Held} {n : ℕ} (o : Open input input' output output' h n) where
   module _ (t : Turn) {buf' : List ℕ} (s : Streams h input' input'' output' output'' t buf') where
-    pub on : t.went.more ≡ true → t.written ≡ true → Open input input'' output output'' (holding t.went.bench (take t.went.kept buf'))
+    pub on :
+        t.went.more ≡ true → t.written ≡ true
+        → Open input input'' output output'' (holding t.went.bench (take t.went.kept buf')) (n + 1)
     on m w =
         let q = after_piece h s.came (sym s.more ∙ m) in
         let p = q.0 in
@@ -115,6 +118,7 @@ module _ {input input' input'' output output' output'' : Option (List ℕ)} {h :
           reached = s.holds ∙ q.2 ∙ ap (λ (x : Held). held x p) o.reached ∙ sym (held_more at_start o.pieces p);
           came = subst (Consumes input input'') (sym (joined_more o.pieces p)) (Consumes-trans input input' input'' (joined o.pieces) p o.came b.0);
           said = subst (Appends output output'') (sym (so_far_more at_start o.pieces p)) (Appends-trans output output' output'' _ _ o.said a);
+          filled = rw (joined_more o.pieces p, length-append (joined o.pieces) p) (omega (arith, o.filled, q.4));
         }
 
     pub done : t.read ≡ Some 0 → t.written ≡ true → IfSome input (λ s. Appends output output'' (session s))
@@ -130,12 +134,21 @@ module _ {input input' input'' output output' output'' : Option (List ℕ)} {h :
         Consumes-whole input input'' (joined o.pieces) (λ s. Appends output output'' (session s)) came (b.1 refl)
         (subst (Appends output output'') (so_far_all at_start o.pieces ∙ any_cut o.pieces) a)
 
+-- the input had a byte at least for each turn
+pub long_enough :
+    (input input' : Option (List ℕ)) {output output' : Option (List ℕ)} {h : Held} {turns : ℕ} → Open input input' output output' h turns
+    → IfSome input (λ s. turns ≤ length s)
+long_enough None input' o = tt
+long_enough (Some s) None o = absurd o.came
+long_enough (Some s) (Some ys) o = omega (arith, o.filled, ap length o.came, length-append (joined o.pieces) ys)
+
 pub open_start :
-    (input output : Option (List ℕ)) (b : Bench) → b ≡ power_up → Open input input output output (holding b [])
+    (input output : Option (List ℕ)) (b : Bench) → b ≡ power_up → Open input input output output (holding b []) 0
 open_start input output b e =
     record {
       pieces = [];
       reached = ap (λ (b : Bench). holding b []) e;
       came = Consumes-nil input;
       said = Appends-nil output;
+      filled = omega arith;
     }

@@ -40,8 +40,9 @@ pub record Stops : Type 0 where
   pub stopped : on taken.turn ≡ false
 
 -- the turns end with such a turn, or where as many were made as 64 bits can count; all is well where the last has met the end of the
--- input and has all written
+-- input and has all written. The number is the result's own: for every number there is something that so many turns leave, whatever was
+-- run.
 abbrev pub Ends : Result (Unit {0}) Cut → Type 0
 Ends (Ok u) = (s : Stops) × (s.taken.turn.read ≡ Some 0) × (s.taken.turn.written ≡ true)
 Ends (Err Failed) = Stops
-Ends (Err Counted) = (h : Held) × After 18446744073709551615 h
+Ends (Err (Counted n)) = (n ≡ 18446744073709551615) × (h : Held) × After n h

@@ -1,12 +1,12 @@
 // The program: standard input is a session, standard output its answers.
 #![tactic(auto)]
 
-ghost use Rattle.std.specs.Prelude.{◌+◌, ◌*◌, ◌<◌, ◌≤◌, length, take, IfSome, OnOk};
+ghost use Rattle.std.specs.Prelude.{◌+◌, ◌*◌, ◌<◌, ◌≤◌, length, take, IfSome, IfErr, OnOk};
 ghost use Rattle.std.specs.Io.KnownBytes.{Appends};
 ghost use Rattle.session.specs.Sessions.{session};
 ghost use Rattle.turns.specs.Turns.{holding};
 ghost use Rattle.bench.specs.Turns.{Turned, Ends};
-ghost use Rattle.bench.specs.Streams.{Streams};
+ghost use Rattle.bench.specs.Streams.{Streams, LongEnough};
 
 use pipes::Pipes;
 use session::Bench;
@@ -22,11 +22,12 @@ struct Turn {
     written: bool,
 }
 
-// Why not all of the session was answered: a read or a write failed, or as many turns were made as 64 bits can count.
+// Why not all of the session was answered: a read or a write failed, or as many turns were made as 64 bits can count. Their number is
+// told so that the loop can be held to it.
 #[derive(Clone, Copy)]
 enum Cut {
     Failed,
-    Counted,
+    Counted(u64),
 }
 
 // One read, and the answers to what it completes.
@@ -57,11 +58,13 @@ fn all_turns<E: Eprint, R: io::Read, W: io::Write>(pipes: &mut Pipes<E, R, W>) -
     ensures ends { Ends result }
     ensures answers { OnOk result (IfSome (R.remaining pipes.old.input)
         (λ s. Appends (W.contents pipes.old.output) (W.contents pipes.new.output) (session s))) }
+    ensures counted { IfErr result (LongEnough (R.remaining pipes.old.input)) }
 {
     let mut buf = [0u8; 65536];
     let mut out = [0u8; 196621];
     let mut bench = Bench::power_up();
     let mut kept = 0;
+    let mut turns = 0;
     for turn in 0..u64::MAX {
         let t = one_turn(pipes, bench, &mut buf, kept, &mut out);
         if !t.written {
@@ -76,8 +79,9 @@ fn all_turns<E: Eprint, R: io::Read, W: io::Write>(pipes: &mut Pipes<E, R, W>) -
         }
         bench = t.went.bench;
         kept = t.went.kept;
+        turns = turn + 1;
     }
-    Err(Cut::Counted)
+    Err(Cut::Counted(turns))
 }
 
 fn main(rt: HostRuntime) {

@@ -21,7 +21,8 @@ pub struct After<C> {
     pub reply: Reply,
 }
 
-// What the reply to a call is made of, whatever the chip: why it was refused, the line byte, and the byte that was read.
+// What the reply to a call is made of, whatever the chip: why it was refused, the line byte, and the byte that was read. All that makes
+// or takes one is inlined, for it has a whole record in it.
 #[derive(Clone, Copy)]
 struct Shown<C> {
     chip: C,
@@ -32,6 +33,7 @@ struct Shown<C> {
 
 impl<C: Copy> Shown<C> {
     // A refused call is answered by its refusal alone.
+    #[inline(always)]
     fn replied(self, reply: Reply) -> After<C>
         ensures { result ≡ after_of self reply }
     {
@@ -44,24 +46,28 @@ impl<C: Copy> Shown<C> {
         }
     }
 
+    #[inline(always)]
     fn done(self) -> After<C>
         ensures { result ≡ after_of self (Done self.line) }
     {
         self.replied(Reply::Done(self.line))
     }
 
+    #[inline(always)]
     fn with_data(self) -> After<C>
         ensures { result ≡ after_of self (Data self.line self.«data») }
     {
         self.replied(Reply::Data(self.line, self.data))
     }
 
+    #[inline(always)]
     fn with_mask(self, cleared: u8) -> After<C>
         ensures { result ≡ after_of self (Read self.line self.«data» cleared) }
     {
         self.replied(Reply::Read(self.line, self.data, cleared))
     }
 
+    #[inline(always)]
     fn with_number(self, n: u32) -> After<C>
         ensures { result ≡ after_of self (Number self.line n) }
     {
@@ -88,6 +94,7 @@ fn lines45(answer: crtc6545::Answer) -> u8
 impl From<via6522::Answer> for Shown<Via> {
     ghost from_gives = { λ answer shown. shown ≡ shown22 answer };
 
+    #[inline(always)]
     fn from(answer: via6522::Answer) -> Shown<Via> {
         Shown {
             chip: answer.via,
@@ -101,6 +108,7 @@ impl From<via6522::Answer> for Shown<Via> {
 impl From<tpi6525::Answer> for Shown<Tpi> {
     ghost from_gives = { λ answer shown. shown ≡ shown25 answer };
 
+    #[inline(always)]
     fn from(answer: tpi6525::Answer) -> Shown<Tpi> {
         Shown {
             chip: answer.tpi,
@@ -114,6 +122,7 @@ impl From<tpi6525::Answer> for Shown<Tpi> {
 impl From<IoAnswer> for Shown<Io> {
     ghost from_gives = { λ answer shown. shown ≡ shown32 answer };
 
+    #[inline(always)]
     fn from(answer: IoAnswer) -> Shown<Io> {
         Shown {
             chip: answer.io,
@@ -127,6 +136,7 @@ impl From<IoAnswer> for Shown<Io> {
 impl From<crtc6545::Answer> for Shown<Crtc> {
     ghost from_gives = { λ answer shown. shown ≡ shown45 answer };
 
+    #[inline(always)]
     fn from(answer: crtc6545::Answer) -> Shown<Crtc> {
         Shown {
             chip: answer.crtc,

@@ -33,10 +33,15 @@ impl Forecast {
         choose(through, self, Forecast::Never)
     }
 
+    // By cases, since `min` of the derived order takes a third more instructions.
     pub fn sooner(self, other: Forecast) -> Forecast
         ensures { result ≡ sooner_of self other }
     {
-        self.min(other)
+        match (self, other) {
+            (Forecast::In(x), Forecast::In(y)) => Forecast::In(x.min(y)),
+            (Forecast::Never, _) => other,
+            _ => self,
+        }
     }
 }
 

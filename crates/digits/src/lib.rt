@@ -4,19 +4,22 @@
 ghost use Rattle.std.specs.Prelude.{◌≡◌, ◌<◌, IfSome};
 ghost use Rattle.digits.specs.Hex.{value_of, pair_of, word_of};
 
+// How far a character is above 0 and above A, modulo 256: one compare tells whether it is in that range.
+#[inline(always)]
 fn value(c: u8) -> Option<u8>
     ensures digit { result ≡ value_of c }
     ensures below_16 { IfSome result (λ v. v < 16) }
 {
-    match c {
-        b'0'..=b'9' => Some(c - b'0'),
-        b'A'..=b'F' => Some(c - b'A' + 10),
+    match (c.wrapping_sub(b'0'), c.wrapping_sub(b'A')) {
+        (digit @ 0..=9, _) => Some(digit),
+        (_, letter @ 0..=5) => Some(letter + 10),
         _ => None,
     }
 }
 
 // The byte of two digits.
 #[tactic(auto, unfolding(crate::specs::Hex::pair_of))]
+#[inline(always)]
 pub fn byte(h: u8, l: u8) -> Option<u8>
     ensures { result ≡ pair_of h l }
 {

@@ -1,5 +1,5 @@
 -- The frame of a line, by its length and its first two bytes.
-use Rattle.std.proofs.Common.{◌≡◌, ℕ, zero, suc, ◌+◌, ◌-◌, ◌*◌, ◌<◌, ◌≤◌, Bool, true, false, ◌&&◌, eqb, leb, List, [], ◌∷◌, length, take, drop, sym, refl, ap, ◌∙◌, arith, add-one, drop_of_length-le, drop-cons, get_or, ne_eqb, le-leb, leb-true, if◌then◌else◌}
+use Rattle.std.proofs.Common.{◌≡◌, ℕ, zero, suc, ◌+◌, ◌-◌, ◌*◌, ◌<◌, ◌≤◌, Bool, true, false, ◌&&◌, eqb, leb, List, [], ◌∷◌, length, take, drop, ◌⊎◌, inl, inr, sym, refl, ap, ◌∙◌, arith, add-one, drop_of_length-le, drop-cons, get_or, ne_eqb, le-leb, leb-true, if◌then◌else◌}
 use Rattle.std.specs.Prelude.{Option, None, Some}
 use mathlib.Core.Bool.{and-false}
 use lib.Seq.{take-length}
@@ -73,22 +73,31 @@ found_none (r ∷ t) w s m = go (λ q. found_none t w s q) (eqb (length s) r.ope
     go others true e q = rw (ne_eqb w r.word q.0) (others q.1)
     go others false e q = rw (e, and-false (eqb w r.word)) (others q)
 
--- no operation has more than four operands
+-- no word is above 65535, and no operation has more than four operands
 bounded : List Row → Bool
 bounded [] = true
-bounded (r ∷ t) = leb r.operands 4 && bounded t
+bounded (r ∷ t) = leb r.word 65535 && leb r.operands 4 && bounded t
 
-found_beyond : (t : List Row) (w : ℕ) (s : List ℕ) → bounded t ≡ true → 4 < length s → found t w s ≡ None
+found_beyond : (t : List Row) (w : ℕ) (s : List ℕ) → bounded t ≡ true → (65535 < w) ⊎ (4 < length s) → found t w s ≡ None
 unfolding bounded
 found_beyond [] w s b h = refl
 found_beyond (r ∷ t) w s b h =
-    let c = both (leb r.operands 4) (bounded t) b in
-    let n : r.operands ≤ 4 = leb-true r.operands 4 c.0 in
-    rw (ne_eqb (length s) r.operands (λ e. omega (arith, e)), and-false (eqb w r.word)) (found_beyond t w s c.1 h)
+    let c = both (leb r.word 65535 && leb r.operands 4) (bounded t) b in
+    let d = both (leb r.word 65535) (leb r.operands 4) c.0 in
+    rw (row_beyond (leb-true r.word 65535 d.0) (leb-true r.operands 4 d.1) h) (found_beyond t w s c.1 h)
+  where
+    row_beyond : r.word ≤ 65535 → r.operands ≤ 4 → (65535 < w) ⊎ (4 < length s) → (eqb w r.word && eqb (length s) r.operands) ≡ false
+    row_beyond p q (inl h) = rw (ne_eqb w r.word (λ e. omega (arith, e)))
+    row_beyond p q (inr h) = rw (ne_eqb (length s) r.operands (λ e. omega (arith, e))) (and-false (eqb w r.word))
+
+-- so neither of these is a call
+above : (w : ℕ) (s : List ℕ) → 65535 < w → called w s ≡ None
+unfolding called bounded
+above w s h = found_beyond table w s refl (inl h)
 
 longer : (w : ℕ) (s : List ℕ) → 4 < length s → called w s ≡ None
 unfolding called bounded
-longer w s h = found_beyond table w s refl h
+longer w s h = found_beyond table w s refl (inr h)
 
 -- the bytes of a line are half as many as its characters
 half : List ℕ → Option (List ℕ) → Type 0

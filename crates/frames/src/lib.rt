@@ -73,6 +73,7 @@ fn with_three(word: u16, x: u8, y: u8, z: u8) -> Option<Frame>
 
 // Four operands are a count.
 #[tactic(auto, unfolding(crate::specs::Frames::called))]
+#[inline(always)]
 fn with_four(word: u16, a: u8, b: u8, c: u8, d: u8) -> Option<Frame>
     ensures { result ≡ called word (a ∷ b ∷ c ∷ d ∷ []) }
 {
@@ -109,8 +110,9 @@ fn asked(word: u16, operands: &[u8]) -> Option<Frame>
 pub fn decode(line: &[u8]) -> Option<Frame>
     ensures { result ≡ frame_of line.now }
 {
-    match line {
-        [a, b, c, d, operands @ ..] => asked(word(*a, *b, *c, *d)?, operands),
-        _ => None,
-    }
+    let [a, b, c, d, operands @ ..] = line else {
+        return None;
+    };
+    // Taken out and put back, so that all that is no frame leaves by one way, which the compiler makes shorter.
+    Some(asked(word(*a, *b, *c, *d)?, operands)?)
 }

@@ -116,6 +116,8 @@ impl Raster {
         self
     }
 
+    // Inlined, as a call that hands on a whole record is slow.
+    #[inline(always)]
     #[tactic(auto, unfolding(crate::specs::Clock::raster_clocked))]
     pub fn clocked(mut self) -> Raster
         ensures { result ≡ raster_clocked self }

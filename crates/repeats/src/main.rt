@@ -1,7 +1,7 @@
 // The program: standard input is a session with repeats, standard output its answers.
 #![tactic(auto)]
 
-ghost use Rattle.std.specs.Prelude.{◌≡◌, ◌<◌, ◌≤◌, true, length, take, IfSome};
+ghost use Rattle.std.specs.Prelude.{◌≡◌, ◌<◌, ◌≤◌, true, ℕ, length, take, IfSome, IfNone};
 ghost use Rattle.std.specs.Io.KnownBytes.{Appends, Consumes, IsAtEnd};
 ghost use Rattle.lines.specs.Places.{cut_of};
 ghost use Rattle.unrolled.specs.Windows.{judged, answer_of};
@@ -31,6 +31,8 @@ fn input<E: Eprint, R: io::Read, W: io::Write>(
     ensures within { IfSome result (λ n. n ≤ length buf.new) }
     ensures bytes { IfSome result (λ n. Consumes (R.remaining pipes.old.input) (R.remaining pipes.new.input) (take n buf.new)) }
     ensures end { IfSome result (λ n. n < length buf.new → IsAtEnd (R.remaining pipes.new.input)) }
+    ensures failed { IfNone result ((n : ℕ) × (n ≤ length buf.new)
+        × Consumes (R.remaining pipes.old.input) (R.remaining pipes.new.input) (take n buf.new)) }
     ensures output { pipes.new.output ≡ pipes.old.output }
 {
     let mut n = 0;
@@ -55,6 +57,7 @@ fn windows<E: Eprint, R: io::Read, W: io::Write>(
     requires { (judged file.now ≡ Ok tt) × (table.now ≡ cut_of file.now) × (425984 ≤ length out.old) }
     ensures ends { Ends file.now result }
     ensures answers { result.written ≡ true → Appends (W.contents pipes.old.output) (W.contents pipes.new.output) (answer_of file.now) }
+    ensures others { pipes.new ≡ record pipes.old { output = pipes.new.output } }
 {
     let mut places = [0u32; 32768];
     let mut bench = Bench::power_up();
@@ -84,6 +87,7 @@ fn answered<E: Eprint, R: io::Read, W: io::Write>(
     requires { (length table.old ≡ 32768) × (length out.old ≡ 425984) }
     ensures ends { Ends file.now result }
     ensures answers { result.written ≡ true → Appends (W.contents pipes.old.output) (W.contents pipes.new.output) (answer_of file.now) }
+    ensures others { pipes.new ≡ record pipes.old { output = pipes.new.output } }
 {
     match unrolled::begin(file, table, out) {
         Begun::Lines(lines) => windows(pipes, file, &table[..lines], out),

@@ -1,10 +1,10 @@
 -- The statements of specs/Demands.antt, proved.
-use mathlib.Core.Path.{◌≡◌, sym, ap, ◌∙◌}
+use mathlib.Core.Path.{◌≡◌, refl, sym, ap, ◌∙◌}
 use Prim.Native.Nat.{ℕ, ◌+◌, ◌≤◌}
 use native.Mathlib.Decide.{dec_le}
 use native.Mathlib.Omega.{arith}
 use lib.ListN.{length, drop, length-append}
-use Rattle.replies.specs.Replies.{render}
+use Rattle.replies.specs.Replies.{told, render, refusal_line}
 use Rattle.replies.specs.Demands
 use Rattle.clocks.proofs.Lists.{same_halves}
 use Rattle.replies.proofs.Texts.{told_short}
@@ -12,6 +12,10 @@ use Rattle.replies.proofs.Texts.{told_short}
 pub replies_fit : Demands.RepliesFit
 unfolding render
 replies_fit r = simp length-append (omega (arith, told_short r))
+
+pub number_says : Demands.NumberSays
+unfolding told render refusal_line
+number_says = (λ r. refl, λ n. refl)
 
 pub put_one : Demands.PutOne
 put_one before x y at r q t p s = go (dec_le (at + 13) (length before))

@@ -14,12 +14,13 @@ use Rattle.clocks.proofs.Lists.{drop_later}
 use Rattle.replies.specs.Hex.{digit_of, hex_of}
 use Rattle.replies.specs.Replies.{told, Appended}
 use Rattle.replies.specs.declared.Reply.{Reply}
-use Rattle.replies.specs.declared.Reply.TheVariants.{Refused, Done, Data, Read, Number}
+use Rattle.replies.specs.declared.Reply.TheVariants.{Refused, RefusedAs, Done, Data, Read, Number}
 
 -- the longest reply has six bytes, of two digits each
 pub told_short : (r : Reply) → length (told r) ≤ 12
 unfolding told hex_of
 told_short (Refused r) = omega arith
+told_short (RefusedAs n) = omega arith
 told_short (Done l) = omega arith
 told_short (Data l b) = omega arith
 told_short (Read l b m) = omega arith

@@ -3,12 +3,13 @@ use Rattle.std.specs.Prelude.{ℕ, ◌+◌, ◌<◌, ◌≤◌, ◌≡◌, List,
 use Rattle.replies.specs.Hex.{hex_of, long_of}
 use Rattle.calls.specs.Refusals.{number_of}
 use Rattle.replies.specs.declared.Reply.{Reply}
-use Rattle.replies.specs.declared.Reply.TheVariants.{Refused, Done, Data, Read, Number}
+use Rattle.replies.specs.declared.Reply.TheVariants.{Refused, RefusedAs, Done, Data, Read, Number}
 
 -- a refusal is its number alone; all else is 00, the line byte, and what was read, with the mask where there is one, or a number: a forecast,
 -- or turns
 unfoldable pub told : Reply → List ℕ
 told (Refused r) = hex_of (number_of r)
+told (RefusedAs n) = hex_of n
 told (Done l) = hex_of 0 ++ hex_of l
 told (Data l b) = hex_of 0 ++ hex_of l ++ hex_of b
 told (Read l b m) = hex_of 0 ++ hex_of l ++ hex_of b ++ hex_of m

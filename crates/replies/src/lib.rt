@@ -11,10 +11,12 @@ use puts::{put_bytes, put_end};
 mod puts;
 
 // What a frame gets: the refusal; or the line byte, alone, before a byte that was read, before such a byte and the mask of the flags that
-// the read cleared, or before a number of four bytes, a forecast's or that of a run's turns.
+// the read cleared, or before a number of four bytes, a forecast's or that of a run's turns. RefusedAs is for a number that is no Refusal of a
+// call: a file's, or any other byte.
 #[derive(Clone, Copy)]
 pub enum Reply {
     Refused(Refusal),
+    RefusedAs(u8),
     Done(u8),
     Data(u8, u8),
     Read(u8, u8, u8),
@@ -42,6 +44,7 @@ pub fn put(out: &mut [u8], at: usize, reply: Reply) -> usize
 {
     match reply {
         Reply::Refused(refusal) => put_line(out, at, &[refusal.number()]),
+        Reply::RefusedAs(n) => put_line(out, at, &[n]),
         Reply::Done(line) => put_line(out, at, &[0, line]),
         Reply::Data(line, b) => put_line(out, at, &[0, line, b]),
         Reply::Read(line, b, cleared) => put_line(out, at, &[0, line, b, cleared]),

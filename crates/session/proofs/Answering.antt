@@ -13,7 +13,7 @@ use Rattle.replies.specs.Hex.{digit_of, hex_of, long_of}
 use Rattle.frames.specs.Frames.{frame_of}
 use Rattle.replies.specs.Replies.{told, render}
 use Rattle.replies.specs.declared.Reply.{Reply}
-use Rattle.replies.specs.declared.Reply.TheVariants.{Refused, Done, Data, Read, Number}
+use Rattle.replies.specs.declared.Reply.TheVariants.{Refused, RefusedAs, Done, Data, Read, Number}
 use Rattle.session.specs.Steps.{power_up, step_of}
 use Rattle.lines.specs.Lines.{ended, open_line, lines_of, file_of, Quiet, Quiets}
 use Rattle.lines.proofs.Lines.{quiet_append}
@@ -43,6 +43,7 @@ long_quiet n =
 told_quiet : (r : Reply) → Quiet (told r)
 unfolding told
 told_quiet (Refused r) = hex_quiet (number_of r)
+told_quiet (RefusedAs n) = hex_quiet n
 told_quiet (Done l) = quiet_append _ _ (hex_quiet 0) (hex_quiet l)
 told_quiet (Data l b) = quiet_append _ _ (quiet_append _ _ (hex_quiet 0) (hex_quiet l)) (hex_quiet b)
 told_quiet (Read l b m) = quiet_append _ _ (quiet_append _ _ (quiet_append _ _ (hex_quiet 0) (hex_quiet l)) (hex_quiet b)) (hex_quiet m)

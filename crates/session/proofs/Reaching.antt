@@ -10,7 +10,7 @@ use Rattle.frames.specs.declared.Frame.{Frame}
 use Rattle.frames.specs.declared.Frame.TheVariants.{To22, To25, To32, To45}
 use Rattle.frames.proofs.Demands.{frames_typed}
 use Rattle.replies.specs.declared.Reply.{Reply}
-use Rattle.replies.specs.declared.Reply.TheVariants.{Refused, Done, Data, Read, Number}
+use Rattle.replies.specs.declared.Reply.TheVariants.{Refused, RefusedAs, Done, Data, Read, Number}
 use Rattle.calls.specs.declared.Refusal.{Refusal}
 use Rattle.calls.specs.declared.Refusal.TheVariants.{IllFormed, NoFrame}
 use Rattle.chips.specs.Chips as Chips
@@ -61,6 +61,7 @@ chips_reached ls = let r = reached ls in (r.via, r.tpi, r.riot, r.crtc)
 
 refusal : Reply → Option Refusal
 refusal (Refused r) = Some r
+refusal (RefusedAs n) = None
 refusal (Done l) = None
 refusal (Data l x) = None
 refusal (Read l x m) = None

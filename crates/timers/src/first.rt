@@ -9,15 +9,13 @@ use crate::T1;
 use clocks::Forecast;
 
 impl T1 {
-    // The counter at `counter`, the mark cleared.
-    fn at(self, counter: u16) -> T1
+    // The counter at `counter`, the mark cleared. Stored, since by struct update a lent clock takes a quarter more instructions.
+    fn at(mut self, counter: u16) -> T1
         ensures { result ≡ at_of counter self }
     {
-        T1 {
-            counter,
-            mark: false,
-            ..self
-        }
+        self.counter = counter;
+        self.mark = false;
+        self
     }
 
     // How many counts it is above zero; with the mark set, one more than the latch.

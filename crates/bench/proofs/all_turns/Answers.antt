@@ -1,14 +1,14 @@
-use mathlib.Core.Path.{◌≡◌}
+use mathlib.Core.Path.{◌≡◌, refl}
 use Rattle.std.proofs.Common.{rules}
 use native.Mathlib.Omega.{arith}
 use Rattle.bench.proofs.Turning.{going_start, turn_on, stops_unwritten, stops_last, stops_whole, met_end}
-use Rattle.bench.proofs.Streaming.{open_start, on, done}
+use Rattle.bench.proofs.Streaming.{open_start, on, done, long_enough}
 use Rattle.bench.proofs.all_turns.Goals as goal
 
 pub loop-turn-init : goal.loop-turn-init
 loop-turn-init g c =
     let p = c.power_up-bench.ensures in
-    record { turned = going_start _ _ _ (search rules) (search rules) p; flow = open_start _ _ _ p }
+    record { turned = going_start _ _ _ (search rules) (search rules) p; flow = open_start _ _ _ p; counted = refl }
 
 pub loop-turn-preserved : goal.loop-turn-preserved
 loop-turn-preserved g c =
@@ -19,6 +19,7 @@ loop-turn-preserved g c =
     record {
       turned = turn_on t.result i.turned t.ensures.turned w m t.auto.buf t.auto.out;
       flow = on i.flow t.result (t.ensures.streams (omega (arith, i.turned.small, i.turned.input))) m w;
+      counted = refl;
     }
 
 pub returns-then-not-t-clause-ends : goal.returns-then-not-t-clause-ends
@@ -41,5 +42,9 @@ returns-else-eq-clause-ends g c = stops_last c.one_turn-t.result c.loop-turn.inv
 
 pub returns-clause-ends : goal.returns-clause-ends
 returns-clause-ends g c =
-    let n : c.loop-turn.turn ≡ 18446744073709551615 = omega arith in
-    (_, rw n at c.loop-turn.invariant.turned.after)
+    let i = c.loop-turn.invariant in
+    let n : c.loop-turn.turns ≡ 18446744073709551615 = omega (arith, i.counted) in
+    (n, _, rw (← i.counted) at i.turned.after)
+
+pub returns-clause-counted : goal.returns-clause-counted
+returns-clause-counted g c = let i = c.loop-turn.invariant in rw i.counted (long_enough _ _ i.flow)

@@ -19,6 +19,7 @@ loop-places-preserved g c =
     record {
       playing = playing_on i.playing _ c.requires.1 w.result w.ensures w.auto.places w.auto.out;
       said = saying_on _ _ _ i.playing _ c.requires.1 w.result w.ensures i.said (c.write-written.ensures.bytes c.if-not-written.false);
+      others = rw i.others at c.write-written.ensures.others;
     }
 
 pub returns-then-not-written-clause-ends : goal.returns-then-not-written-clause-ends
