@@ -202,7 +202,7 @@ pub fn on32(io: Io, ram: &mut [u8; 128], call: Call32) -> After<Io>
 }
 
 // A byte that nothing drives is not shown. The turns of a run are worked out only where they are asked for.
-// The reset comes last: as the first arm it takes half as long again, and more (DECISIONS 204).
+// The reset comes last: as the first arm it takes half as long again, and more (DECISIONS 205).
 #[tactic(auto, using(crate::proofs::Told::turned45), unfolding(crtc6545::specs::Chip::reading_of))]
 pub fn on45(crtc: Crtc, call: Call45) -> After<Crtc>
     ensures { result ≡ after45 crtc call }
